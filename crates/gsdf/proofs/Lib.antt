@@ -1,0 +1,4 @@
+-- `TableRule`: the rule of Table B-1. `Unrounded`: the display function before its rounding. `Laws`: what the crates above use of it.
+pub mod TableRule
+pub mod Unrounded
+pub mod Laws

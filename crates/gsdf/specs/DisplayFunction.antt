@@ -1,0 +1,32 @@
+-- The Grayscale Standard Display Function in whole numbers: luminances in units of 0.0001 cd/m², indices in hundredths of a JND.
+use Prim.Native.Nat.{ℕ, _+_, _-_, _*_, _/_, _%_, _≤_}
+use lib.Dec.{leb}
+use lib.ListN.{getD}
+use Rattle.laws.specs.Search.{largest}
+use Rattle.gsdf.specs.Table.{tableB1}
+
+-- T of document 01: the luminance of JND j, 1 to 1023
+unfoldable pub jndLuminance : ℕ → ℕ
+jndLuminance j = getD tableB1 (j - 1) 0
+
+-- the luminance r hundredths after JND j, r from 0 to 99, rounded down
+unfoldable pub luminanceAfter : ℕ → ℕ → ℕ
+luminanceAfter j r = jndLuminance j + (jndLuminance (j + 1) - jndLuminance j) * r / 100
+
+-- G of document 01: the luminance of index k, 100 to 102,300
+unfoldable pub luminanceOf : ℕ → ℕ
+luminanceOf k = luminanceAfter (k / 100) (k % 100)
+
+-- J of document 01: the largest index, 100 to 102,300, whose luminance is at most l
+unfoldable pub indexOf : ℕ → ℕ
+indexOf l = largest (λ k. leb (luminanceOf k) l) 100 102300
+
+-- k is an index
+pub record IsIndex (k : ℕ) : Type 0 where
+  pub low : 100 ≤ k
+  pub high : k ≤ 102300
+
+-- l is a luminance from T(1) to T(1023)
+pub record InTable (l : ℕ) : Type 0 where
+  pub low : 500 ≤ l
+  pub high : l ≤ 39934040

@@ -1,0 +1,94 @@
+// The Grayscale Standard Display Function of PS3.14: the luminance of a JND index and the JND index of a luminance.
+ghost use mathlib.Core.Path.{_≡_};
+ghost use Prim.Native.Nat.{_≤_};
+ghost use Rattle.gsdf.specs.Table.{tableB1};
+ghost use Rattle.gsdf.specs.DisplayFunction.{jndLuminance, luminanceOf, indexOf, IsIndex, InTable};
+use units::JndIndex;
+use units::Luminance;
+
+mod table;
+
+// Table B-1. Every use of the constant copies it, so an operation takes it once and lends it.
+pub fn table_b1() -> [u32; 1023]
+    ensures { λ r. ⌜ r ≡ tableB1 ⌝ }
+{
+    table::TABLE_B1
+}
+
+// The luminance of JND j.
+fn jnd_luminance(table: &[u32; 1023], j: u32) -> Luminance
+    requires { ⌜ (now table ≡ tableB1) × (1 ≤ j) × (j ≤ 1023) ⌝ }
+    ensures { λ r. ⌜ r .0 ≡ jndLuminance j ⌝ }
+{
+    let at = (j - 1) as usize;
+    Luminance(table[at])
+}
+
+// The luminance of an index, with Table B-1 lent.
+pub fn luminance_in(table: &[u32; 1023], k: JndIndex) -> Luminance
+    requires { ⌜ (now table ≡ tableB1) × IsIndex (k .0) ⌝ }
+    ensures { λ r. ⌜ r .0 ≡ luminanceOf (k .0) ⌝ }
+{
+    let value = k.0;
+    let j = value / 100;
+    let hundredths = value % 100;
+    let low = jnd_luminance(table, j).0;
+    if hundredths == 0 {
+        return Luminance(low);
+    }
+    let next = j + 1;
+    let high = jnd_luminance(table, next).0;
+    let difference = high - low;
+    let product = difference * hundredths;
+    let lit = low + product / 100;
+    Luminance(lit)
+}
+
+// The largest index whose luminance is at most l, with Table B-1 lent.
+pub fn index_in(table: &[u32; 1023], l: Luminance) -> JndIndex
+    requires { ⌜ (now table ≡ tableB1) × InTable (l .0) ⌝ }
+    ensures { λ r. ⌜ r .0 ≡ indexOf (l .0) ⌝ }
+{
+    let value = l.0;
+    // JND j is at most l; JND end, where the table has it, is above l.
+    let mut j: u32 = 1;
+    let mut end: u32 = 1024;
+    while j + 1 < end {
+        let middle = (j + end) / 2;
+        let lit = jnd_luminance(table, middle).0;
+        if lit <= value {
+            j = middle;
+        } else {
+            end = middle;
+        }
+    }
+    if j == 1023 {
+        return JndIndex(102300);
+    }
+    let low = jnd_luminance(table, j).0;
+    let high = jnd_luminance(table, end).0;
+    let difference = high - low;
+    let above = value - low;
+    let scaled = 100 * above + 99;
+    let hundredths = scaled / difference;
+    let index = 100 * j + hundredths;
+    JndIndex(index)
+}
+
+// The luminance of an index, for a caller that has no table at hand.
+pub fn luminance_of(k: JndIndex) -> Luminance
+    requires { ⌜ IsIndex (k .0) ⌝ }
+    ensures { λ r. ⌜ r .0 ≡ luminanceOf (k .0) ⌝ }
+{
+    let table = table_b1();
+    luminance_in(&table, k)
+}
+
+// The largest index whose luminance is at most l, for a caller that has no table at hand.
+pub fn index_of(l: Luminance) -> JndIndex
+    requires { ⌜ InTable (l .0) ⌝ }
+    ensures { λ r. ⌜ r .0 ≡ indexOf (l .0) ⌝ }
+{
+    let table = table_b1();
+    index_in(&table, l)
+}

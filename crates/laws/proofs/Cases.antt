@@ -1,0 +1,26 @@
+-- Tests taken apart into their cases. `mir.Facts` has those of `&&`, `||`, `leb`, `ltb` and `eqb`.
+-- Assumes nothing.
+use mathlib.Core.Path.{_≡_, refl}
+use mathlib.Core.Bool.{Bool, true, false, cond, not, _||_}
+use mathlib.Core.Logic.{_⊎_, inl, inr}
+use Prim.Native.Nat.{ℕ, _≤_, _<_}
+use lib.Dec.{T, leb}
+use borrow.Author.Tests.{leb-true, leb-false}
+
+-- by the outcome of a test
+pub by {ℓ} : {X : Type ℓ} (b : Bool) → (b ≡ true → X) → (b ≡ false → X) → X
+by true f g = f refl
+by false f g = g refl
+
+pub le-or-lt : (a b : ℕ) → (a ≤ b) ⊎ (b < a)
+le-or-lt a b = by (leb a b) (λ e. inl (leb-true a b e)) (λ e. inr (leb-false a b e))
+
+-- what holds of x where the test passes, and of y where it fails, holds of the one that is chosen
+pub chosen {ℓ κ} : {A : Type ℓ} (P : A → Type κ) (b : Bool) {x y : A} → (T b → P x) → (T (not b) → P y) → P (cond b x y)
+chosen P true f g = f tt
+chosen P false f g = g tt
+
+pub yes-or : (a b : Bool) → T a ⊎ T b → T (a || b)
+yes-or true b t = tt
+yes-or false b (inl t) = absurd t
+yes-or false b (inr t) = t

@@ -1,0 +1,91 @@
+-- What bounded search finds.
+-- Assumes nothing.
+use Prim.Native.Nat.{ℕ, zero, suc, _+_, _-_, _≤_, _<_, zero-le, suc-le-suc}
+use mathlib.Core.Path.{_≡_, subst}
+use mathlib.Core.Bool.{Bool}
+use mathlib.Core.Logic.{inl, inr, ⊎-elim}
+use native.Mathlib.Nat.{le-refl, le-of-suc-le-suc, not-suc-le-zero, eq-or-lt-of-le}
+use native.Mathlib.Omega.{arith}
+use lib.Dec.{T}
+use mir.Facts.{T-not, or-yes}
+use Rattle.laws.specs.Search.{any, lowest, largestOf, largest}
+use Rattle.laws.proofs.Cases.{chosen, yes-or}
+
+-- ---- upward
+
+pub any-intro : (p : ℕ → Bool) (n i : ℕ) → i < n → T (p i) → T (any p n)
+unfolding any
+any-intro p zero i h t = absurd (not-suc-le-zero h)
+any-intro p (suc n) zero h t = yes-or (p zero) _ (inl t)
+any-intro p (suc n) (suc i) h t = yes-or (p zero) _ (inr (any-intro (λ i. p (suc i)) n i (le-of-suc-le-suc h) t))
+
+-- where some number passes, the lowest does
+pub lowest-passes : (p : ℕ → Bool) (n : ℕ) → T (any p n) → T (p (lowest p n))
+unfolding any lowest
+lowest-passes p zero t = absurd t
+lowest-passes p (suc n) t =
+    chosen (λ (i : ℕ). T (p i)) (p zero) (λ s. s)
+    (λ s. lowest-passes (λ i. p (suc i)) n (⊎-elim (λ u. absurd (T-not (p zero) u s)) (λ u. u) (or-yes (p zero) _ t)))
+
+pub lowest-top : (p : ℕ → Bool) (n : ℕ) → lowest p n ≤ n
+unfolding lowest
+lowest-top p zero = zero-le
+lowest-top p (suc n) = chosen (λ (i : ℕ). i ≤ suc n) (p zero) (λ s. zero-le) (λ s. suc-le-suc (lowest-top (λ i. p (suc i)) n))
+
+-- no lower one passes
+pub lowest-le : (p : ℕ → Bool) (n i : ℕ) → T (p i) → lowest p n ≤ i
+unfolding lowest
+lowest-le p zero i t = zero-le
+lowest-le p (suc n) zero t = chosen (λ (i : ℕ). i ≤ zero) (p zero) (λ s. zero-le) (λ s. absurd (T-not (p zero) t s))
+lowest-le p (suc n) (suc i) t =
+    chosen (λ (j : ℕ). j ≤ suc i) (p zero) (λ s. zero-le) (λ s. suc-le-suc (lowest-le (λ i. p (suc i)) n i t))
+
+-- what a search from below ends with
+pub lowest-is : (p : ℕ → Bool) (n q : ℕ) → q < n → T (p q) → ((j : ℕ) → j < q → T (p j) → ⊥) → lowest p n ≡ q
+lowest-is p n q h t none =
+    ⊎-elim (λ e. e) (λ l. absurd (none _ l (lowest-passes p n (any-intro p n q h t)))) (eq-or-lt-of-le (lowest-le p n q t))
+
+-- ---- downward
+
+module _ (p : ℕ → Bool) (lo : ℕ) where
+  of-low : (n : ℕ) → lo ≤ largestOf p lo n
+  unfolding largestOf
+  of-low zero = le-refl lo
+  of-low (suc n) = chosen (λ (m : ℕ). lo ≤ m) (p (lo + suc n)) (λ t. omega arith) (λ t. of-low n)
+
+  of-top : (n : ℕ) → largestOf p lo n ≤ lo + n
+  unfolding largestOf
+  of-top zero = omega arith
+  of-top (suc n) =
+      chosen (λ (m : ℕ). m ≤ lo + suc n) (p (lo + suc n)) (λ t. le-refl (lo + suc n)) (λ t. omega (arith, of-top n))
+
+  of-passes : (n : ℕ) → T (p lo) → T (p (largestOf p lo n))
+  unfolding largestOf
+  of-passes zero h = h
+  of-passes (suc n) h = chosen (λ (m : ℕ). T (p m)) (p (lo + suc n)) (λ t. t) (λ t. of-passes n h)
+
+  of-max : (n i : ℕ) → i ≤ lo + n → T (p i) → i ≤ largestOf p lo n
+  unfolding largestOf
+  of-max zero i l h = omega arith
+  of-max (suc n) i l h =
+      chosen (λ (m : ℕ). i ≤ m) (p (lo + suc n)) (λ t. l)
+      (λ t.
+      ⊎-elim
+      (λ e. absurd (T-not (p (lo + suc n)) (subst (λ (m : ℕ). T (p m)) e h) t))
+      (λ b. of-max n i (omega arith) h)
+      (eq-or-lt-of-le l))
+
+  module _ (hi : ℕ) where
+    pub largest-low : lo ≤ largest p lo hi
+    largest-low = of-low (hi - lo)
+
+    pub largest-top : lo ≤ hi → largest p lo hi ≤ hi
+    largest-top h = omega (arith, of-top (hi - lo))
+
+    -- where the first number passes, the largest does
+    pub largest-passes : T (p lo) → T (p (largest p lo hi))
+    largest-passes h = of-passes (hi - lo) h
+
+    -- no larger one passes
+    pub largest-max : (i : ℕ) → lo ≤ hi → i ≤ hi → T (p i) → i ≤ largest p lo hi
+    largest-max i h l t = of-max (hi - lo) i (omega arith) t

@@ -1,0 +1,16 @@
+// The quantities of a calibration. Each is a type of its own, so that none can stand in for another.
+
+// Illuminance in lux; one lamp gives 0 to 2,000.
+pub struct Lux(pub u32);
+
+// Luminance in units of 0.0001 cd/m²; Table B-1 runs from 500 to 39,934,040.
+pub struct Luminance(pub u32);
+
+// Drive level of the display (DDL), from 0 to 255, 511 or 1,023 by its depth.
+pub struct Ddl(pub u16);
+
+// Presentation value, 0 to 255.
+pub struct PValue(pub u16);
+
+// JND index in hundredths of a JND, 100 to 102,300.
+pub struct JndIndex(pub u32);
