@@ -15,7 +15,7 @@ module _ {ℓ} {A : Type ℓ} (f : ℕ → A) where
   pub length-tab : (n : ℕ) → length (tab f n) ≡ n
   unfolding tab
   length-tab zero = refl
-  length-tab (suc n) = length-append (tab f n) (f n ∷ []) ∙ omega (arith, length-tab n)
+  length-tab (suc n) = length-append (tab f n) _ ∙ omega (arith, length-tab n)
 
   -- one place more
   pub fill : (d : List A) (n : ℕ) → n < length d → set (tab f n ++ drop n d) n (f n) ≡ tab f (n + 1) ++ drop (n + 1) d

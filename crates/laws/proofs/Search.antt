@@ -56,8 +56,7 @@ module _ (p : ℕ → Bool) (lo : ℕ) where
   of-top : (n : ℕ) → largestOf p lo n ≤ lo + n
   unfolding largestOf
   of-top zero = omega arith
-  of-top (suc n) =
-      chosen (λ (m : ℕ). m ≤ lo + suc n) (p (lo + suc n)) (λ t. le-refl (lo + suc n)) (λ t. omega (arith, of-top n))
+  of-top (suc n) = chosen (λ (m : ℕ). m ≤ lo + suc n) (p (lo + suc n)) (λ t. omega arith) (λ t. omega (arith, of-top n))
 
   of-passes : (n : ℕ) → T (p lo) → T (p (largestOf p lo n))
   unfolding largestOf

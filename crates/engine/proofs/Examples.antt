@@ -1,0 +1,31 @@
+-- The one theorem of the marked examples.
+-- Assumes nothing.
+use mathlib.Core.Path.{_≡_, refl}
+use mathlib.Core.Bool.{_&&_}
+use Prim.Native.Nat.{ℕ, _+_}
+use native.Mathlib.Omega.{arith}
+use lib.Dec.{T, leb, ltb}
+use mir.Facts.{and-yes, leb-yes, ltb-yes}
+use Rattle.gsdf.specs.Table.{tableB1}
+use Rattle.gsdf.specs.DisplayFunction.{jndLuminance, luminanceAfter, luminanceOf, indexOf}
+use Rattle.gsdf.proofs.Laws.{index-is}
+use Rattle.engine.specs.MarkedExamples.{MarkedExamples}
+
+-- an index by a test that antt computes
+index-by : (l k : ℕ) → T ((leb 100 k && ltb k 102300) && (leb (luminanceOf k) l && ltb l (luminanceOf (k + 1)))) → indexOf l ≡ k
+index-by l k t =
+    let (range, around) = and-yes (leb 100 k && ltb k 102300) _ t in
+    let (low, high) = and-yes (leb 100 k) _ range in
+    let (at-most, above) = and-yes (leb (luminanceOf k) l) _ around in
+    index-is l k (leb-yes low) (ltb-yes high) (leb-yes at-most) (ltb-yes above)
+
+pub marked-examples : MarkedExamples
+unfolding luminanceOf luminanceAfter jndLuminance tableB1
+marked-examples = record {
+  index-500 = index-by _ _ tt;
+  index-501 = index-by _ _ tt;
+  index-546 = index-by _ _ tt;
+  index-547 = index-by _ _ tt;
+  index-12400 = index-by _ _ tt;
+  luminance-150 = refl;
+}
