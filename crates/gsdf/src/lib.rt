@@ -50,23 +50,24 @@ pub fn index_in(table: &[u32; 1023], l: Luminance) -> JndIndex
     ensures { λ r. ⌜ r .0 ≡ indexOf (l .0) ⌝ }
 {
     let value = l.0;
-    // JND j is at most l; JND end, where the table has it, is above l.
+    // JND j is at most l; the JND that is width further, where the table has it, is above l.
     let mut j: u32 = 1;
-    let mut end: u32 = 1024;
-    while j + 1 < end {
-        let middle = (j + end) / 2;
+    let mut width: u32 = 1023;
+    while 1 < width {
+        let half = width / 2;
+        let middle = j + half;
         let lit = jnd_luminance(table, middle).0;
         if lit <= value {
             j = middle;
-        } else {
-            end = middle;
         }
+        width -= half;
     }
     if j == 1023 {
         return JndIndex(102300);
     }
     let low = jnd_luminance(table, j).0;
-    let high = jnd_luminance(table, end).0;
+    let next = j + 1;
+    let high = jnd_luminance(table, next).0;
     let difference = high - low;
     let above = value - low;
     let scaled = 100 * above + 99;

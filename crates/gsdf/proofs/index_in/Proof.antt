@@ -1,33 +1,58 @@
 -- The loop keeps l between two JNDs; the hundredths after the lower one are one quotient. Assumes nothing.
-use mathlib.Core.Path.{_≡_, sym, ap, _∙_}
-use Prim.Native.Nat.{ℕ, _+_, _-_, _≤_, _<_}
+use mathlib.Core.Path.{_≡_, sym, ap}
+use mathlib.Core.Logic.{⊎-elim}
+use Prim.Native.Nat.{ℕ, _+_, _-_, _/_, _≤_, _<_}
+use native.Mathlib.Nat.{lt-of-lt-of-le}
 use native.Mathlib.Omega.{arith}
 use borrow.Author.Needs.{needs}
 use Rattle.gsdf.specs.DisplayFunction.{jndLuminance}
-use Rattle.gsdf.proofs.TableRule.{jnd-first, jnd-last}
+use Rattle.gsdf.proofs.TableRule.{jnd-first, jnd-last, jnd-mono}
 use Rattle.gsdf.proofs.Laws.{index-last, Between, rise-least, index-between, hundredths-lt}
 use Rattle.gsdf.proofs.index_in.Statement.{statement}
 use Rattle.gsdf.proofs.index_in.Tie as tie
 
--- JND j is at most l, and JND end, where the table has it, is above l
-record Halved (l j end : ℕ) : Type 0 where
-  pub low : 1 ≤ j
-  pub apart : j < end
-  pub high : end ≤ 1024
+-- JND j is at most l, and all from JND j + width on are above l
+record Halved (l j width : ℕ) : Type 0 where
+  pub first : 1 ≤ j
+  pub some : 1 ≤ width
+  pub last : j + width ≤ 1024
   pub at-most : jndLuminance j ≤ l
-  pub above : end ≤ 1023 → l < jndLuminance end
+  pub above : (i : ℕ) → j + width ≤ i → i ≤ 1023 → l < jndLuminance i
+
+-- the halves, by the JND in the middle
+module _ {l j width : ℕ} (h : Halved l j width) (more : 1 < width) where
+  upper : jndLuminance (j + width / 2) ≤ l → Halved l (j + width / 2) (width - width / 2)
+  upper t = record {
+    first = omega arith;
+    some = omega arith;
+    last = omega arith;
+    at-most = t;
+    above = λ i a b. h .above i (omega arith) b;
+  }
+
+  lower : l < jndLuminance (j + width / 2) → Halved l j (width - width / 2)
+  lower t = record {
+    first = omega arith;
+    some = omega arith;
+    last = omega arith;
+    at-most = h .at-most;
+    above = λ i a b. lt-of-lt-of-le t (jnd-mono (j + width / 2) i (omega arith) (omega arith) b);
+  }
 
 abbrev Inv-loop : tie.InvT-loop
-Inv-loop table value j₀ end₀ j end = Halved value j end
+Inv-loop table value j₀ width₀ j width = Halved value j width
 
 abbrev μ-loop : tie.MeasureT-loop
-μ-loop table value j₀ end₀ j end = end - j
+μ-loop table value j₀ width₀ j width = width
 
 loop-holds : tie.Need-loop-holds Inv-loop μ-loop
-loop-holds c = omega (arith, jnd-first)
-
-add-loop : tie.Need-add-loop Inv-loop μ-loop
-add-loop c = search needs
+loop-holds c = record {
+  first = omega arith;
+  some = omega arith;
+  last = omega arith;
+  at-most = omega (arith, jnd-first);
+  above = λ i a b. omega arith;
+}
 
 add-middle : tie.Need-add-middle Inv-loop μ-loop
 add-middle c = search needs
@@ -35,17 +60,19 @@ add-middle c = search needs
 jnd-luminance-requires : tie.Need-jnd-luminance-requires Inv-loop μ-loop
 jnd-luminance-requires c κs = search needs
 
+sub-width : tie.Need-sub-width Inv-loop μ-loop
+sub-width c = search needs
+
 loop-less : tie.Need-loop-less Inv-loop μ-loop
 loop-less c = search needs
 
 loop-again : tie.Need-loop-again Inv-loop μ-loop
-loop-again c = search needs
-
-loop-less-2 : tie.Need-loop-less-2 Inv-loop μ-loop
-loop-less-2 c = search needs
-
-loop-again-2 : tie.Need-loop-again-2 Inv-loop μ-loop
-loop-again-2 c = search needs
+loop-again c =
+    let loop = c .before .before .before .loop in
+    ⊎-elim
+    (λ w. rw (w .1) (upper (loop .inv) (omega arith) (omega arith)))
+    (λ w. rw (w .1) (lower (loop .inv) (omega arith) (omega arith)))
+    (c .if1 .came)
 
 returns : tie.Need-returns Inv-loop μ-loop
 returns c =
@@ -54,6 +81,9 @@ returns c =
 
 jnd-luminance-requires-2 : tie.Need-jnd-luminance-requires-2 Inv-loop μ-loop
 jnd-luminance-requires-2 c κs = search needs
+
+add-next : tie.Need-add-next Inv-loop μ-loop
+add-next c = search needs
 
 jnd-luminance-requires-3 : tie.Need-jnd-luminance-requires-3 Inv-loop μ-loop
 jnd-luminance-requires-3 c κs = search needs
@@ -67,14 +97,13 @@ between : (c : tie.After-jnd-luminance3 Inv-loop μ-loop)
     (c .jnd-luminance3 .result .0)
 between c =
     let loop = c .before .before .before .before .loop in
-    let next : jndLuminance (loop .end) ≡ jndLuminance (loop .j + 1) = ap jndLuminance (omega arith) in
     record {
       first = omega arith;
       inside = omega arith;
       low-is = c .before .jnd-luminance2 .ensures;
-      high-is = c .jnd-luminance3 .ensures ∙ next;
+      high-is = c .jnd-luminance3 .ensures;
       at-most = omega arith;
-      above = omega (arith, loop .inv .above (omega arith));
+      above = omega (arith, loop .inv .above (loop .j + 1) (omega arith) (omega arith));
     }
 
 sub-difference : tie.Need-sub-difference Inv-loop μ-loop
@@ -108,15 +137,14 @@ index-in-spec =
     Inv-loop
     μ-loop
     loop-holds
-    add-loop
     add-middle
     jnd-luminance-requires
+    sub-width
     loop-less
     loop-again
-    loop-less-2
-    loop-again-2
     returns
     jnd-luminance-requires-2
+    add-next
     jnd-luminance-requires-3
     sub-difference
     sub-above

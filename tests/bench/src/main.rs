@@ -1,0 +1,151 @@
+//! The engine beside the same methods in Rust: same inputs, one run.
+//!
+//!   bench times             best time of a pass over the inputs, for each case and side
+//!   bench list              the cases
+//!   bench pass CASE SIDE    one pass, for counting instructions
+
+use std::hint::black_box;
+use std::time::Instant;
+
+use compare::gsdf::{raw, Table};
+use reference::gsdf::Gsdf;
+
+/// The methods of crate `gsdf`, written in Rust.
+mod rust {
+    fn jnd_luminance(table: &[u32; 1023], j: u32) -> u32 {
+        table[(j - 1) as usize]
+    }
+
+    #[inline(never)]
+    pub extern "C" fn luminance_in(table: &[u32; 1023], k: u32) -> u32 {
+        let j = k / 100;
+        let hundredths = k % 100;
+        let low = jnd_luminance(table, j);
+        if hundredths == 0 {
+            return low;
+        }
+        let difference = jnd_luminance(table, j + 1) - low;
+        low + difference * hundredths / 100
+    }
+
+    #[inline(never)]
+    pub extern "C" fn index_in(table: &[u32; 1023], l: u32) -> u32 {
+        let mut j = 1;
+        let mut width = 1023;
+        while 1 < width {
+            let half = width / 2;
+            if jnd_luminance(table, j + half) <= l {
+                j += half;
+            }
+            width -= half;
+        }
+        if j == 1023 {
+            return 102_300;
+        }
+        let low = jnd_luminance(table, j);
+        let difference = jnd_luminance(table, j + 1) - low;
+        100 * j + (100 * (l - low) + 99) / difference
+    }
+}
+
+#[derive(Clone, Copy)]
+enum Function {
+    Luminance,
+    Index,
+}
+
+#[derive(Clone, Copy, PartialEq)]
+enum Side {
+    Engine,
+    Rust,
+}
+
+struct Case {
+    name: &'static str,
+    function: Function,
+    inputs: Vec<u32>,
+}
+
+/// A small generator (xorshift) with a fixed seed, so that each run has the same inputs.
+struct Random(u64);
+
+impl Random {
+    fn below(&mut self, n: u64) -> u64 {
+        self.0 ^= self.0 << 13;
+        self.0 ^= self.0 >> 7;
+        self.0 ^= self.0 << 17;
+        self.0 % n
+    }
+}
+
+fn cases() -> Vec<Case> {
+    let mut random = Random(0x9e37_79b9_7f4a_7c15);
+    let mut scattered = |first: u32, last: u32| -> Vec<u32> {
+        let count = u64::from(last - first + 1);
+        (0..100_000).map(|_| first + random.below(count) as u32).collect()
+    };
+    let indices = scattered(100, 102_300);
+    let luminances = scattered(500, 39_934_040);
+    let mut rising = luminances.clone();
+    rising.sort_unstable();
+    vec![
+        Case { name: "luminance-scattered", function: Function::Luminance, inputs: indices },
+        Case { name: "index-scattered", function: Function::Index, inputs: luminances },
+        Case { name: "index-rising", function: Function::Index, inputs: rising },
+    ]
+}
+
+/// One pass over a case's inputs; the sum of the results.
+#[no_mangle]
+#[inline(never)]
+fn measured_pass(case: &Case, side: Side, table: &Table) -> u64 {
+    let entries = table.entries();
+    let inputs = case.inputs.iter();
+    // The inputs keep to what the functions ask: see `cases`.
+    match (case.function, side) {
+        (Function::Luminance, Side::Engine) => inputs.map(|&k| u64::from(unsafe { raw::gsdf_luminance_in(entries.as_ptr(), k) })).sum(),
+        (Function::Luminance, Side::Rust) => inputs.map(|&k| u64::from(rust::luminance_in(entries, k))).sum(),
+        (Function::Index, Side::Engine) => inputs.map(|&l| u64::from(unsafe { raw::gsdf_index_in(entries.as_ptr(), l) })).sum(),
+        (Function::Index, Side::Rust) => inputs.map(|&l| u64::from(rust::index_in(entries, l))).sum(),
+    }
+}
+
+/// The best time of many passes, in nanoseconds for each input; the two sides take turns.
+fn times(cases: &[Case], table: &Table) {
+    for case in cases {
+        assert_eq!(measured_pass(case, Side::Engine, table), measured_pass(case, Side::Rust, table), "{}", case.name);
+        let mut best = [f64::INFINITY; 2];
+        for _ in 0..60 {
+            for (side, best) in [Side::Engine, Side::Rust].into_iter().zip(&mut best) {
+                let began = Instant::now();
+                black_box(measured_pass(black_box(case), side, table));
+                *best = best.min(began.elapsed().as_nanos() as f64 / case.inputs.len() as f64);
+            }
+        }
+        println!("{} {:.2} {:.2}", case.name, best[0], best[1]);
+    }
+}
+
+fn main() {
+    let table = Table::new(&Gsdf::new());
+    let cases = cases();
+    let words: Vec<String> = std::env::args().skip(1).collect();
+    let words: Vec<&str> = words.iter().map(String::as_str).collect();
+    match words[..] {
+        ["times"] => times(&cases, &table),
+        ["list"] => cases.iter().for_each(|case| println!("{} {}", case.name, case.inputs.len())),
+        ["pass", name, side] => {
+            let case = cases.iter().find(|case| case.name == name).expect("a case's name");
+            let side = match side {
+                "engine" => Side::Engine,
+                "rust" => Side::Rust,
+                _ => panic!("a side is engine or rust"),
+            };
+            println!("{}", measured_pass(case, side, &table));
+        }
+        _ => {
+            eprintln!("usage: bench times | bench list | bench pass CASE SIDE");
+            std::process::exit(2);
+        }
+    }
+}

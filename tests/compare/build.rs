@@ -1,0 +1,9 @@
+//! Links the engine's static libraries, which `rt staticlib` writes.
+fn main() {
+    let libraries = concat!(env!("CARGO_MANIFEST_DIR"), "/../../target/staticlib");
+    println!("cargo:rustc-link-search=native={libraries}");
+    for library in ["gsdf_probe"] {
+        println!("cargo:rustc-link-lib=static={library}");
+        println!("cargo:rerun-if-changed={libraries}/lib{library}.a");
+    }
+}

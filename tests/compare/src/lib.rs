@@ -1,0 +1,2 @@
+//! The engine through its C ABI, each function behind a safe one that tests what its contract asks.
+pub mod gsdf;

@@ -1,0 +1,2 @@
+//! The rules of the calibration in another language and by other methods than the engine's: full scans, and no arithmetic narrower than 64 bits.
+pub mod gsdf;
