@@ -26,7 +26,7 @@ pub record IsIndex (k : ℕ) : Type 0 where
   pub low : 100 ≤ k
   pub high : k ≤ 102300
 
--- l is a luminance from T(1) to T(1023)
+-- l is a luminance of the table: from T(1), 500, to T(1023), 39,934,040
 pub record InTable (l : ℕ) : Type 0 where
   pub low : 500 ≤ l
   pub high : l ≤ 39934040

@@ -29,9 +29,9 @@ pub fn luminance_in(table: &[u32; 1023], k: JndIndex) -> Luminance
     requires { ⌜ (now table ≡ tableB1) × IsIndex (k .0) ⌝ }
     ensures { λ r. ⌜ r .0 ≡ luminanceOf (k .0) ⌝ }
 {
-    let value = k.0;
-    let j = value / 100;
-    let hundredths = value % 100;
+    let index = k.0;
+    let j = index / 100;
+    let hundredths = index % 100;
     let low = jnd_luminance(table, j).0;
     if hundredths == 0 {
         return Luminance(low);
@@ -40,8 +40,8 @@ pub fn luminance_in(table: &[u32; 1023], k: JndIndex) -> Luminance
     let high = jnd_luminance(table, next).0;
     let difference = high - low;
     let product = difference * hundredths;
-    let lit = low + product / 100;
-    Luminance(lit)
+    let luminance = low + product / 100;
+    Luminance(luminance)
 }
 
 // The largest index whose luminance is at most l, with Table B-1 lent.
@@ -49,15 +49,15 @@ pub fn index_in(table: &[u32; 1023], l: Luminance) -> JndIndex
     requires { ⌜ (now table ≡ tableB1) × InTable (l .0) ⌝ }
     ensures { λ r. ⌜ r .0 ≡ indexOf (l .0) ⌝ }
 {
-    let value = l.0;
+    let luminance = l.0;
     // JND j is at most l; the JND that is width further, where the table has it, is above l.
     let mut j: u32 = 1;
     let mut width: u32 = 1023;
     while 1 < width {
         let half = width / 2;
         let middle = j + half;
-        let lit = jnd_luminance(table, middle).0;
-        if lit <= value {
+        let at_middle = jnd_luminance(table, middle).0;
+        if at_middle <= luminance {
             j = middle;
         }
         width -= half;
@@ -69,7 +69,7 @@ pub fn index_in(table: &[u32; 1023], l: Luminance) -> JndIndex
     let next = j + 1;
     let high = jnd_luminance(table, next).0;
     let difference = high - low;
-    let above = value - low;
+    let above = luminance - low;
     let scaled = 100 * above + 99;
     let hundredths = scaled / difference;
     let index = 100 * j + hundredths;

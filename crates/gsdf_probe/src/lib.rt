@@ -14,14 +14,6 @@ pub extern "C" fn gsdf_luminance_of(k: u32) -> u32
 }
 
 #[no_mangle]
-pub extern "C" fn gsdf_index_of(l: u32) -> u32
-    requires { ⌜ InTable l ⌝ }
-    ensures { λ r. ⌜ r ≡ indexOf l ⌝ }
-{
-    gsdf::index_of(Luminance(l)).0
-}
-
-#[no_mangle]
 pub extern "C" fn gsdf_luminance_in(table: &[u32; 1023], k: u32) -> u32
     requires { ⌜ (now table ≡ tableB1) × IsIndex k ⌝ }
     ensures { λ r. ⌜ r ≡ luminanceOf k ⌝ }

@@ -4,7 +4,6 @@
 pub mod raw {
     extern "C" {
         pub fn gsdf_luminance_of(k: u32) -> u32;
-        pub fn gsdf_index_of(l: u32) -> u32;
         pub fn gsdf_luminance_in(table: *const u32, k: u32) -> u32;
         pub fn gsdf_index_in(table: *const u32, l: u32) -> u32;
     }
@@ -38,11 +37,6 @@ fn in_table(l: u32) -> bool {
 pub fn luminance_of(k: u32) -> u32 {
     assert!(is_index(k));
     unsafe { raw::gsdf_luminance_of(k) }
-}
-
-pub fn index_of(l: u32) -> u32 {
-    assert!(in_table(l));
-    unsafe { raw::gsdf_index_of(l) }
 }
 
 pub fn luminance_in(table: &Table, k: u32) -> u32 {

@@ -40,10 +40,10 @@ module _ {l j width : ℕ} (h : Halved l j width) (more : 1 < width) where
   }
 
 abbrev Inv-loop : tie.InvT-loop
-Inv-loop table value j₀ width₀ j width = Halved value j width
+Inv-loop table luminance j₀ width₀ j width = Halved luminance j width
 
 abbrev μ-loop : tie.MeasureT-loop
-μ-loop table value j₀ width₀ j width = width
+μ-loop table luminance j₀ width₀ j width = width
 
 loop-holds : tie.Need-loop-holds Inv-loop μ-loop
 loop-holds c = record {

@@ -37,8 +37,8 @@ product-high c =
 mul-product : tie.Need-mul-product
 mul-product c = omega (arith, product-high c)
 
-add-lit : tie.Need-add-lit
-add-lit c = omega (arith, product-high c, jnd-high (index c / 100) (omega arith) (omega arith))
+add-luminance : tie.Need-add-luminance
+add-luminance c = omega (arith, product-high c, jnd-high (index c / 100) (omega arith) (omega arith))
 
 returns-2 : tie.Need-returns-2
 unfolding luminanceOf luminanceAfter
@@ -54,5 +54,5 @@ luminance-in-spec =
     jnd-luminance-requires-2
     sub-difference
     mul-product
-    add-lit
+    add-luminance
     returns-2)
