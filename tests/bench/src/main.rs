@@ -4,7 +4,6 @@
 //!   bench list              the cases
 //!   bench pass CASE SIDE    one pass, for counting instructions
 
-use std::hint::black_box;
 use std::time::Instant;
 
 use compare::gsdf::{raw, Table};
@@ -110,16 +109,23 @@ fn measured_pass(case: &Case, side: Side, table: &Table) -> u64 {
     }
 }
 
+/// The same reference, of which the compiler knows nothing, so that a pass is not made once for all.
+fn opaque<T>(value: &T) -> &T {
+    unsafe { std::ptr::read_volatile(&value) }
+}
+
 /// The best time of many passes, in nanoseconds for each input; the two sides take turns.
 fn times(cases: &[Case], table: &Table) {
     for case in cases {
-        assert_eq!(measured_pass(case, Side::Engine, table), measured_pass(case, Side::Rust, table), "{}", case.name);
+        let expected = measured_pass(case, Side::Rust, table);
         let mut best = [f64::INFINITY; 2];
         for _ in 0..60 {
             for (side, best) in [Side::Engine, Side::Rust].into_iter().zip(&mut best) {
                 let began = Instant::now();
-                black_box(measured_pass(black_box(case), side, table));
-                *best = best.min(began.elapsed().as_nanos() as f64 / case.inputs.len() as f64);
+                let sum = measured_pass(opaque(case), side, opaque(table));
+                let took = began.elapsed().as_nanos() as f64;
+                assert_eq!(sum, expected, "{}", case.name);
+                *best = best.min(took / case.inputs.len() as f64);
             }
         }
         println!("{} {:.2} {:.2}", case.name, best[0], best[1]);
