@@ -1,4 +1,4 @@
--- The marked examples of document 01, of the layers that stand so far.
+-- The marked examples of document 01, of the layers that stand so far. `indexOf` is its J, `luminanceOf` its G.
 use mathlib.Core.Path.{_≡_}
 use Rattle.gsdf.specs.DisplayFunction.{luminanceOf, indexOf}
 

@@ -16,9 +16,10 @@ use Rattle.gsdf.proofs.Unrounded.{difference, line, unrounded, luminanc
 
 -- ---- the luminance of an index
 
--- as document 01 writes it: the luminance of index 100 × j + r
-pub luminance-split : (j r : ℕ) → r < 100 → luminanceOf (100 * j + r) ≡ luminanceAfter j r
-unfolding luminanceOf
+-- as document 01 writes it
+pub luminance-split : (j r : ℕ) → r < 100
+    → luminanceOf (100 * j + r) ≡ jndLuminance j + (jndLuminance (j + 1) - jndLuminance j) * r / 100
+unfolding luminanceOf luminanceAfter
 luminance-split j r h =
     let a : (100 * j + r) / 100 ≡ j = omega arith in
     let b : (100 * j + r) % 100 ≡ r = omega arith in
@@ -29,13 +30,13 @@ pub luminance-whole : (k : ℕ) → k % 100 ≡ 0 → luminanceOf k ≡ jndLumin
 unfolding luminanceOf luminanceAfter
 luminance-whole k e = rw (e, mul-zero) (omega arith)
 
-pub luminance-first : luminanceOf 100 ≡ 500
-luminance-first = luminance-whole 100 (omega arith) ∙ jnd-first
+pub luminance-first : luminanceOf 100 ≡ jndLuminance 1
+luminance-first = luminance-whole 100 (omega arith)
 
-pub luminance-last : luminanceOf 102300 ≡ 39934040
-luminance-last = luminance-whole 102300 (omega arith) ∙ jnd-last
+pub luminance-last : luminanceOf 102300 ≡ jndLuminance 1023
+luminance-last = luminance-whole 102300 (omega arith)
 
--- over n indices it grows by at least 47 × n hundredths of a unit, less one unit for the rounding
+-- over n indices it grows by more than 47 × n hundredths of a unit less one unit, for the rounding
 pub luminance-far : (k n : ℕ) → 100 ≤ k → k + n ≤ 102300 → 100 * luminanceOf k + 47 * n < 100 * luminanceOf (k + n) + 100
 luminance-far k n l h = omega (arith, luminance-rounds k, luminance-rounds (k + n), grows-by unrounded-grows n k l h)
 
@@ -43,16 +44,16 @@ luminance-far k n l h = omega (arith, luminance-rounds k, luminance-rounds (k + 
 pub luminance-mono : (i k : ℕ) → 100 ≤ i → i ≤ k → k ≤ 102300 → luminanceOf i ≤ luminanceOf k
 luminance-mono i k l ik h = omega (arith, luminance-rounds i, luminance-rounds k, never-falls unrounded-grows i k l ik h)
 
--- three indices on, it rises
+-- three or more indices on, it rises
 pub luminance-strict : (i k : ℕ) → 100 ≤ i → i + 3 ≤ k → k ≤ 102300 → luminanceOf i < luminanceOf k
 luminance-strict i k l ik h = omega (arith, luminance-far i 3 l (omega arith), luminance-mono (i + 3) k (omega arith) ik h)
 
 -- it is from T(1) to T(1023)
 pub luminance-low : (k : ℕ) → 100 ≤ k → k ≤ 102300 → 500 ≤ luminanceOf k
-luminance-low k l h = omega (arith, luminance-first, luminance-mono 100 k (le-refl 100) l h)
+luminance-low k l h = omega (arith, luminance-first, jnd-first, luminance-mono 100 k (le-refl 100) l h)
 
 pub luminance-high : (k : ℕ) → 100 ≤ k → k ≤ 102300 → luminanceOf k ≤ 39934040
-luminance-high k l h = omega (arith, luminance-last, luminance-mono k 102300 l h (le-refl 102300))
+luminance-high k l h = omega (arith, luminance-last, jnd-last, luminance-mono k 102300 l h (le-refl 102300))
 
 -- ---- the index of a luminance
 
@@ -68,7 +69,7 @@ index-high l = largest-top (λ k. leb (luminanceOf k) l) 100 102300 (omega arith
 pub luminance-index : (l : ℕ) → 500 ≤ l → luminanceOf (indexOf l) ≤ l
 unfolding indexOf
 luminance-index l h =
-    let first : luminanceOf 100 ≤ l = omega (arith, luminance-first) in
+    let first : luminanceOf 100 ≤ l = omega (arith, luminance-first, jnd-first) in
     leb-yes (largest-passes (λ k. leb (luminanceOf k) l) 100 102300 (yes-leb first))
 
 -- no larger index has a luminance at most l
@@ -101,9 +102,9 @@ index-is l k a b h u =
 
 -- from T(1023) on it is the last
 pub index-last : (l : ℕ) → 39934040 ≤ l → indexOf l ≡ 102300
-index-last l h = le-antisymm (index-high l) (index-max l 102300 (le-refl 102300) (omega (arith, luminance-last)))
+index-last l h = le-antisymm (index-high l) (index-max l 102300 (le-refl 102300) (omega (arith, luminance-last, jnd-last)))
 
--- l is from JND j, of luminance low, to below the next, of luminance high
+-- low and high are the luminances of JND j and of the next, and low ≤ l < high
 pub record Between (l j low high : ℕ) : Type 0 where
   pub first : 1 ≤ j
   pub inside : j < 1023
@@ -112,7 +113,7 @@ pub record Between (l j low high : ℕ) : Type 0 where
   pub at-most : low ≤ l
   pub above : l < high
 
--- there the hundredths of the index are one quotient
+-- then J(l) = 100 × j + floor((100 × (l − low) + 99) / (high − low))
 module _ {l j low high : ℕ} (b : Between l j low high) where
   rise : difference j ≡ high - low
   unfolding difference

@@ -8,7 +8,7 @@ use units::Luminance;
 
 mod table;
 
-// Table B-1. Every use of the constant copies it, so an operation takes it once and lends it.
+// Table B-1, entry j − 1 for JND j. Every use of the constant copies it, so an operation takes it once and lends it.
 pub fn table_b1() -> [u32; 1023]
     ensures { λ r. ⌜ r ≡ tableB1 ⌝ }
 {
@@ -50,7 +50,7 @@ pub fn index_in(table: &[u32; 1023], l: Luminance) -> JndIndex
     ensures { λ r. ⌜ r .0 ≡ indexOf (l .0) ⌝ }
 {
     let luminance = l.0;
-    // JND j is at most l; the JND that is width further, where the table has it, is above l.
+    // T(j) is at most l, and T(j + width), where the table has it, is above l.
     let mut j: u32 = 1;
     let mut width: u32 = 1023;
     while 1 < width {
@@ -70,6 +70,7 @@ pub fn index_in(table: &[u32; 1023], l: Luminance) -> JndIndex
     let high = jnd_luminance(table, next).0;
     let difference = high - low;
     let above = luminance - low;
+    // The largest r with floor(difference × r / 100) at most above, so with difference × r at most 100 × above + 99.
     let scaled = 100 * above + 99;
     let hundredths = scaled / difference;
     let index = 100 * j + hundredths;

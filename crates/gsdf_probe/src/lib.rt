@@ -6,6 +6,13 @@ use units::JndIndex;
 use units::Luminance;
 
 #[no_mangle]
+pub extern "C" fn gsdf_table_b1(table: &mut [u32; 1023])
+    ensures { λ _. ⌜ now (table .exit) ≡ tableB1 ⌝ }
+{
+    *table = gsdf::table_b1();
+}
+
+#[no_mangle]
 pub extern "C" fn gsdf_luminance_of(k: u32) -> u32
     requires { ⌜ IsIndex k ⌝ }
     ensures { λ r. ⌜ r ≡ luminanceOf k ⌝ }

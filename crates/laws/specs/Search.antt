@@ -1,5 +1,5 @@
 -- Bounded search with a test on numbers.
--- What a `let` binds is computed only where it is read, so that an example stops at the number found.
+-- A `let` leaves the rest of a search uncomputed until it is needed, so that an example stops at the number found.
 use Prim.Native.Nat.{ℕ, zero, suc, _+_, _-_}
 use mathlib.Core.Bool.{Bool, false, cond, _||_}
 

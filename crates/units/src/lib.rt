@@ -1,4 +1,4 @@
-// The quantities of a calibration. Each is a type of its own, so that none can stand in for another.
+// The quantities of a calibration. Each is a type of its own: where one is asked for, another does not compile.
 
 // Illuminance in lux; one lamp gives 0 to 2,000.
 pub struct Lux(pub u32);

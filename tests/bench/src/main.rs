@@ -7,7 +7,6 @@
 use std::time::Instant;
 
 use compare::gsdf::{raw, Table};
-use reference::gsdf::Gsdf;
 
 /// The methods of crate `gsdf`, written in Rust.
 mod rust {
@@ -133,7 +132,7 @@ fn times(cases: &[Case], table: &Table) {
 }
 
 fn main() {
-    let table = Table::new(&Gsdf::new());
+    let table = Table::of_engine();
     let cases = cases();
     let words: Vec<String> = std::env::args().skip(1).collect();
     let words: Vec<&str> = words.iter().map(String::as_str).collect();

@@ -3,21 +3,20 @@
 /// The functions as they are, with a `requires` each.
 pub mod raw {
     extern "C" {
+        pub fn gsdf_table_b1(table: *mut u32);
         pub fn gsdf_luminance_of(k: u32) -> u32;
         pub fn gsdf_luminance_in(table: *const u32, k: u32) -> u32;
         pub fn gsdf_index_in(table: *const u32, l: u32) -> u32;
     }
 }
 
-/// Table B-1 for lending; only `new` makes one.
+/// The engine's Table B-1, for lending; only `of_engine` makes one.
 pub struct Table([u32; 1023]);
 
 impl Table {
-    pub fn new(gsdf: &reference::gsdf::Gsdf) -> Table {
+    pub fn of_engine() -> Table {
         let mut table = [0; 1023];
-        for (place, &entry) in table.iter_mut().zip(gsdf.entries()) {
-            *place = u32::try_from(entry).expect("an entry fits 32 bits");
-        }
+        unsafe { raw::gsdf_table_b1(table.as_mut_ptr()) };
         Table(table)
     }
 

@@ -31,6 +31,15 @@ impl Comparison {
     }
 }
 
+/// The engine's constant against the data file.
+fn entries(reference: &Gsdf, table: &gsdf::Table) -> bool {
+    let mut all = Comparison::new("Table B-1");
+    for (j, (&got, &expected)) in (1..).zip(table.entries().iter().zip(reference.entries())) {
+        all.equal(j, got, expected);
+    }
+    all.ended(1023)
+}
+
 /// The luminance of every index, with the engine's own table and with a lent one.
 fn luminances(reference: &Gsdf, table: &gsdf::Table) -> [bool; 2] {
     let mut own = Comparison::new("luminance of an index");
@@ -82,8 +91,8 @@ fn marked_examples(reference: &Gsdf, table: &gsdf::Table) -> [bool; 2] {
 
 fn main() {
     let reference = Gsdf::new();
-    let table = gsdf::Table::new(&reference);
-    let mut results = Vec::new();
+    let table = gsdf::Table::of_engine();
+    let mut results = vec![entries(&reference, &table)];
     results.extend(luminances(&reference, &table));
     results.push(indices(&reference, &table));
     results.push(scanned_indices(&reference, &table));
