@@ -10,9 +10,17 @@ use mir.Facts.{leb-yes, yes-leb, clash}
 use Rattle.laws.proofs.Cases.{le-or-lt}
 use Rattle.laws.proofs.Numbers.{times-next, grows-by, never-falls}
 use Rattle.laws.proofs.Search.{largest-low, largest-top, largest-passes, largest-max}
-use Rattle.gsdf.specs.DisplayFunction.{jndLuminance, luminanceAfter, luminanceOf, indexOf}
+use Rattle.gsdf.specs.DisplayFunction.{jndLuminance, luminanceAfter, luminanceOf, indexOf, IsIndex, InTable}
 use Rattle.gsdf.proofs.TableRule.{jnd-first, jnd-last}
 use Rattle.gsdf.proofs.Unrounded.{difference, line, unrounded, luminance-rounds, unrounded-at, unrounded-next, unrounded-grows, difference-least}
+
+-- ---- what the functions ask: no index and no luminance of the table is left out
+
+pub every-index : (k : ℕ) → 100 ≤ k → k ≤ 102300 → IsIndex k
+every-index k a b = record { low = a; high = b }
+
+pub every-luminance : (l : ℕ) → jndLuminance 1 ≤ l → l ≤ jndLuminance 1023 → InTable l
+every-luminance l a b = record { low = omega (arith, jnd-first); high = omega (arith, jnd-last) }
 
 -- ---- the luminance of an index
 

@@ -1,5 +1,6 @@
 //! The engine beside the same methods in Rust: same inputs, one run.
 //!
+//!   bench check             whether both sides give the same, input by input
 //!   bench times             best time of a pass over the inputs, for each case and side
 //!   bench list              the cases
 //!   bench pass CASE SIDE    one pass, for counting instructions
@@ -93,19 +94,38 @@ fn cases() -> Vec<Case> {
     ]
 }
 
+/// Hands over each result of a case, in the order of its inputs, which keep to what the functions ask: see `cases`.
+#[inline(always)]
+fn each(case: &Case, side: Side, table: &Table, mut take: impl FnMut(u32)) {
+    let entries = table.entries();
+    let inputs = case.inputs.iter();
+    match (case.function, side) {
+        (Function::Luminance, Side::Engine) => inputs.for_each(|&k| take(unsafe { raw::gsdf_luminance_in(entries.as_ptr(), k) })),
+        (Function::Luminance, Side::Rust) => inputs.for_each(|&k| take(rust::luminance_in(entries, k))),
+        (Function::Index, Side::Engine) => inputs.for_each(|&l| take(unsafe { raw::gsdf_index_in(entries.as_ptr(), l) })),
+        (Function::Index, Side::Rust) => inputs.for_each(|&l| take(rust::index_in(entries, l))),
+    }
+}
+
 /// One pass over a case's inputs; the sum of the results.
 #[no_mangle]
 #[inline(never)]
 fn measured_pass(case: &Case, side: Side, table: &Table) -> u64 {
-    let entries = table.entries();
-    let inputs = case.inputs.iter();
-    // The inputs keep to what the functions ask: see `cases`.
-    match (case.function, side) {
-        (Function::Luminance, Side::Engine) => inputs.map(|&k| u64::from(unsafe { raw::gsdf_luminance_in(entries.as_ptr(), k) })).sum(),
-        (Function::Luminance, Side::Rust) => inputs.map(|&k| u64::from(rust::luminance_in(entries, k))).sum(),
-        (Function::Index, Side::Engine) => inputs.map(|&l| u64::from(unsafe { raw::gsdf_index_in(entries.as_ptr(), l) })).sum(),
-        (Function::Index, Side::Rust) => inputs.map(|&l| u64::from(rust::index_in(entries, l))).sum(),
-    }
+    let mut sum = 0;
+    each(case, side, table, |result| sum += u64::from(result));
+    sum
+}
+
+/// Compares the results of the two sides for every case; whether all are equal.
+fn check(cases: &[Case], table: &Table) -> bool {
+    let results = |case, side| {
+        let mut all = Vec::new();
+        each(case, side, table, |result| all.push(result));
+        all
+    };
+    let passed = cases.iter().filter(|case| results(case, Side::Engine) == results(case, Side::Rust)).count();
+    println!("{} passed, {} failed", passed, cases.len() - passed);
+    passed == cases.len()
 }
 
 /// The same reference, of which the compiler knows nothing, so that a pass is not made once for all.
@@ -137,6 +157,11 @@ fn main() {
     let words: Vec<String> = std::env::args().skip(1).collect();
     let words: Vec<&str> = words.iter().map(String::as_str).collect();
     match words[..] {
+        ["check"] => {
+            if !check(&cases, &table) {
+                std::process::exit(1);
+            }
+        }
         ["times"] => times(&cases, &table),
         ["list"] => cases.iter().for_each(|case| println!("{} {}", case.name, case.inputs.len())),
         ["pass", name, side] => {
@@ -149,7 +174,7 @@ fn main() {
             println!("{}", measured_pass(case, side, &table));
         }
         _ => {
-            eprintln!("usage: bench times | bench list | bench pass CASE SIDE");
+            eprintln!("usage: bench check | bench times | bench list | bench pass CASE SIDE");
             std::process::exit(2);
         }
     }

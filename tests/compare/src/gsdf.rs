@@ -1,10 +1,11 @@
-//! The display function: crate `gsdf` through `gsdf_probe`.
+//! The display function: crate `gsdf` through `gsdf_values` and `gsdf_lent`.
 
 /// The functions as they are, with a `requires` each.
 pub mod raw {
     extern "C" {
         pub fn gsdf_table_b1(table: *mut u32);
         pub fn gsdf_luminance_of(k: u32) -> u32;
+        pub fn gsdf_index_of(l: u32) -> u32;
         pub fn gsdf_luminance_in(table: *const u32, k: u32) -> u32;
         pub fn gsdf_index_in(table: *const u32, l: u32) -> u32;
     }
@@ -36,6 +37,11 @@ fn in_table(l: u32) -> bool {
 pub fn luminance_of(k: u32) -> u32 {
     assert!(is_index(k));
     unsafe { raw::gsdf_luminance_of(k) }
+}
+
+pub fn index_of(l: u32) -> u32 {
+    assert!(in_table(l));
+    unsafe { raw::gsdf_index_of(l) }
 }
 
 pub fn luminance_in(table: &Table, k: u32) -> u32 {

@@ -12,7 +12,7 @@ pub struct Gsdf {
 }
 
 impl Gsdf {
-    pub fn new() -> Gsdf {
+    pub fn from_data_file() -> Gsdf {
         let mut table = vec![0];
         for line in include_str!("../../../data/table-b1.tsv").lines() {
             if line.starts_with('#') {
@@ -51,11 +51,5 @@ impl Gsdf {
     pub fn index(&self, l: u64) -> u64 {
         assert!(self.table[1] <= l && l <= self.table[1023]);
         (FIRST_INDEX..=LAST_INDEX).rev().find(|&k| self.luminance(k) <= l).expect("G(100) is at most l")
-    }
-}
-
-impl Default for Gsdf {
-    fn default() -> Gsdf {
-        Gsdf::new()
     }
 }
