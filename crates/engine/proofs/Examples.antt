@@ -3,7 +3,6 @@
 use mathlib.Core.Path.{_≡_, refl}
 use mathlib.Core.Bool.{_&&_}
 use Prim.Native.Nat.{ℕ, _+_}
-use native.Mathlib.Omega.{arith}
 use lib.Dec.{T, leb, ltb}
 use mir.Facts.{and-yes, leb-yes, ltb-yes}
 use Rattle.gsdf.specs.Table.{tableB1}

@@ -1,6 +1,6 @@
 -- The laws of the display function and of its inverse.
 -- Assumes nothing.
-use mathlib.Core.Path.{_≡_, ap, subst, sym, _∙_}
+use mathlib.Core.Path.{_≡_, ap, sym, _∙_}
 use mathlib.Core.Logic.{⊎-elim}
 use Prim.Native.Nat.{ℕ, _+_, _-_, _*_, _/_, _%_, _≤_, _<_}
 use native.Mathlib.Nat.{le-refl, le-trans, le-antisymm, mul-zero, mul-div-le, lt-mul-div-succ, div-lt-iff-lt-mul}
@@ -130,7 +130,7 @@ module _ {l j low high : ℕ} (b : Between l j low high) where
   pub rise-least : low + 47 ≤ high
   rise-least = omega (arith, rise, difference-least j (b .first) (b .inside), b .at-most, b .above)
 
-  pub hundredths-lt : (100 * (l - low) + 99) / (high - low) < 100
+  hundredths-lt : (100 * (l - low) + 99) / (high - low) < 100
   hundredths-lt = div-lt-iff-lt-mul {k = high - low} (omega (arith, rise-least)) .1 (omega arith)
 
   pub index-between : 100 * j + (100 * (l - low) + 99) / (high - low) ≡ indexOf l

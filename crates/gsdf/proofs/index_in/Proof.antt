@@ -2,12 +2,12 @@
 use mathlib.Core.Path.{_≡_, sym, ap}
 use mathlib.Core.Logic.{⊎-elim}
 use Prim.Native.Nat.{ℕ, _+_, _-_, _/_, _≤_, _<_}
-use native.Mathlib.Nat.{lt-of-lt-of-le}
+use native.Mathlib.Nat.{lt-of-lt-of-le, lt-of-le-of-lt, add-le-add, le-refl, div-le-self}
 use native.Mathlib.Omega.{arith}
 use borrow.Author.Needs.{needs}
 use Rattle.gsdf.specs.DisplayFunction.{jndLuminance}
 use Rattle.gsdf.proofs.TableRule.{jnd-first, jnd-last, jnd-mono}
-use Rattle.gsdf.proofs.Laws.{index-last, Between, rise-least, index-between, hundredths-lt}
+use Rattle.gsdf.proofs.Laws.{index-last, Between, rise-least, index-between}
 use Rattle.gsdf.proofs.index_in.Statement.{statement}
 use Rattle.gsdf.proofs.index_in.Tie as tie
 
@@ -124,8 +124,9 @@ div-hundredths c = omega (arith, rise-least (between c))
 mul-index : tie.Need-mul-index Inv-loop μ-loop
 mul-index c = search needs
 
+-- the quotient is at most what is divided
 add-index : tie.Need-add-index Inv-loop μ-loop
-add-index c = omega (arith, hundredths-lt (between c))
+add-index c = record { fits = lt-of-le-of-lt (add-le-add (le-refl _) (div-le-self _ _)) (omega arith) }
 
 returns-2 : tie.Need-returns-2 Inv-loop μ-loop
 returns-2 c = index-between (between c)
