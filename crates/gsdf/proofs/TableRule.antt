@@ -4,6 +4,7 @@ use mathlib.Core.Path.{_≡_, refl}
 use Prim.Native.Nat.{ℕ, suc, _+_, _-_, _*_, _≤_, _<_}
 use native.Mathlib.Omega.{arith}
 use lib.ListN.{getD}
+use Rattle.laws.specs.Rises.{risesFrom, risesBy}
 use Rattle.laws.proofs.Numbers.{Grows, grows-by, never-falls}
 use Rattle.laws.proofs.Rises.{rises-at}
 use Rattle.gsdf.specs.Table.{tableB1}
@@ -11,7 +12,7 @@ use Rattle.gsdf.specs.DisplayFunction.{jndLuminance}
 
 -- the test holds by computation
 neighbours : (i : ℕ) → i < 1022 → getD tableB1 i 0 + 47 ≤ getD tableB1 (suc i) 0
-unfolding tableB1
+unfolding tableB1 risesFrom risesBy
 neighbours i h = rises-at 47 tableB1 tt i (omega arith)
 
 pub jnd-grows : Grows jndLuminance 47 1 1023

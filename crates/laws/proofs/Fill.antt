@@ -1,14 +1,14 @@
--- Lists filled from the front, place by place, with f 0, f 1, ..
+-- Lists filled from the front, place by place: with f 0, f 1, .., or with another list's elements.
 -- Assumes nothing.
-use mathlib.Core.Path.{_≡_, refl, sym, _∙_}
+use mathlib.Core.Path.{_≡_, refl, sym, ap, _∙_}
 use mathlib.Core.List.{List, [], _∷_, _++_, append-assoc}
-use Prim.Native.Nat.{ℕ, zero, suc, _+_, _<_}
+use Prim.Native.Nat.{ℕ, zero, suc, _+_, _≤_, _<_}
 use mathlib.Core.Logic.{⊎-elim}
 use native.Mathlib.Nat.{not-suc-le-zero, le-of-suc-le-suc, eq-or-lt-of-le}
 use native.Mathlib.Numerals.{add-one}
 use native.Mathlib.Omega.{arith}
-use lib.ListN.{length, drop, set, getD, length-append, List·getD-append}
-use lib.Seq.{drop-cons, set-at, getD-at}
+use lib.ListN.{length, take, drop, set, getD, length-append, List·getD-append}
+use lib.Seq.{drop-cons, set-at, getD-at, take-suc, take-length, length-take-le, length-front}
 use Rattle.laws.specs.Fill.{tab}
 
 module _ {ℓ} {A : Type ℓ} (f : ℕ → A) where
@@ -34,3 +34,28 @@ module _ {ℓ} {A : Type ℓ} (f : ℕ → A) where
       let k : i < length (tab f n) = rw length-tab l in
       List·getD-append (tab f n) (f n ∷ []) x i k ∙ getD-tab n i x l)
       (eq-or-lt-of-le (le-of-suc-le-suc h))
+
+-- ---- a list copied to the front of another, place by place
+
+-- the first i elements of d are now those of xs
+pub record Copied {ℓ} {A : Type ℓ} (xs d now : List A) (i : ℕ) : Type ℓ where
+  pub is : now ≡ take i xs ++ drop i d
+
+module _ {ℓ} {A : Type ℓ} (xs d : List A) where
+  pub copied-none : Copied xs d d 0
+  copied-none = record { is = refl }
+
+  pub copied-more : (now : List A) (i : ℕ) (x : A) → Copied xs d now i → i < length xs → i < length d → x ≡ getD xs i x → Copied xs d (set now i x) (i + 1)
+  copied-more now i x h l k e = record {
+    is =
+        rw (add-one i, h .is, drop-cons d i x k, set-at (take i xs) (getD d i x) (drop (suc i) d) x i (length-take-le i xs (omega arith)))
+        (rw (take-suc xs i x l, ← e) (sym (append-assoc (take i xs) (x ∷ []) (drop (suc i) d))));
+  }
+
+  pub copied-all : (now : List A) (i : ℕ) → Copied xs d now i → length xs ≤ i → i ≤ length xs → now ≡ xs ++ drop (length xs) d
+  copied-all now i h l k =
+      let e : i ≡ length xs = omega arith in
+      h .is ∙ rw (e, take-length xs)
+
+  pub copied-length : (now : List A) (i : ℕ) → Copied xs d now i → i ≤ length xs → i ≤ length d → length now ≡ length d
+  copied-length now i h k l = ap length (h .is) ∙ length-front d (take i xs) i (length-take-le i xs k ∙ sym (length-take-le i d l))

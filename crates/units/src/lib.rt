@@ -14,3 +14,6 @@ pub struct PValue(pub u16);
 
 // JND index in hundredths of a JND, 100 to 102,300.
 pub struct JndIndex(pub u32);
+
+// Diffuse reflectance of the screen's face (Rd) in units of 0.0001 per steradian, 0 to 1,000.
+pub struct Reflectance(pub u16);

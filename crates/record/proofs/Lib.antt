@@ -1,0 +1,6 @@
+pub mod Fields
+pub mod Scans
+pub mod Counted
+pub mod Judged
+pub mod Placed
+pub mod Reading

@@ -1,0 +1,5 @@
+pub mod Refusals
+pub mod Bytes
+pub mod Sections
+pub mod Tests
+pub mod Reader

@@ -1,0 +1,490 @@
+// The job record: any bytes give its sections and, after tests 5 to 7, its job, or the first refusal from 2 to 7.
+ghost use mathlib.Core.Path.{_≡_};
+ghost use mathlib.Core.List.{_++_};
+ghost use Prim.Native.Nat.{_+_, _*_, _<_, _≤_};
+ghost use lib.ListN.{length, take, drop};
+ghost use Rattle.laws.specs.Rises.{risesBy};
+ghost use Rattle.record.specs.Refusals.{refusalNumber};
+ghost use Rattle.record.specs.Bytes.{word, long, fields};
+ghost use Rattle.record.specs.Sections.{permitted, width, countOf, layoutOf};
+ghost use Rattle.record.specs.Tests.{within, meterOf, classOf, settingsInRange, settingsOf, lampsInRange, sum, maxDdl, spans, neverFalls, judged};
+ghost use Rattle.record.specs.Reader.{Judgeable, ReadFrom};
+use units::Ddl;
+use units::Lux;
+use units::Reflectance;
+
+// What sends a job back. `refusal_number` gives the number of each.
+pub enum Refusal {
+    LentTooShort,
+    RecordTooShort,
+    CountNotPermitted,
+    TrailingBytes,
+    OutOfRange,
+    DdlsNotRising,
+    LuminanceFalls,
+    BlackBelowTable,
+    WhiteAboveTable,
+    RangeTooNarrow,
+    NoTable,
+    CheckOutsideTable,
+    CheckRangeTooNarrow,
+}
+
+pub fn refusal_number(r: Refusal) -> u32
+    ensures { λ n. ⌜ n ≡ refusalNumber r ⌝ }
+{
+    match r {
+        Refusal::LentTooShort => 1,
+        Refusal::RecordTooShort => 2,
+        Refusal::CountNotPermitted => 3,
+        Refusal::TrailingBytes => 4,
+        Refusal::OutOfRange => 5,
+        Refusal::DdlsNotRising => 6,
+        Refusal::LuminanceFalls => 7,
+        Refusal::BlackBelowTable => 8,
+        Refusal::WhiteAboveTable => 9,
+        Refusal::RangeTooNarrow => 10,
+        Refusal::NoTable => 11,
+        Refusal::CheckOutsideTable => 12,
+        Refusal::CheckRangeTooNarrow => 13,
+    }
+}
+
+pub enum Meter {
+    Contact,
+    Telescopic,
+}
+
+pub enum Class {
+    Primary,
+    Secondary,
+}
+
+// The sections of a record, in their order.
+pub enum Section {
+    Settings,
+    Lamps,
+    Sweep,
+    Check,
+}
+
+// What reading one section finds: how many items it has, all of them there, or why it cannot be read.
+pub enum SectionCount {
+    Items(usize),
+    Fault(Refusal),
+}
+
+// What reading the record front to back finds: the counts of settings, lamps, sweep and check, or why it cannot be read.
+pub enum Layout {
+    Complete(usize, usize, usize, usize),
+    Broken(Refusal),
+}
+
+pub struct JobSettings {
+    // Bits of a drive level, 8 to 10.
+    pub depth: u16,
+    pub meter: Meter,
+    pub class: Class,
+    pub reflectance: Reflectance,
+    // The allowed error in parts per thousand, 0 to 1,000.
+    pub tolerance: u16,
+}
+
+// The settings, and the sum of the lamps.
+pub struct Job {
+    pub settings: JobSettings,
+    pub lamps: Lux,
+}
+
+pub enum Answer {
+    Accepted(Job),
+    Refused(Refusal),
+}
+
+// The answer, and beside it the readings of every record whose sections are complete: the first `readings` of `ddls` and
+// `luminances` are the sweep, the first `patches` of `check` the check.
+pub struct JobRecord {
+    pub answer: Answer,
+    pub readings: usize,
+    pub ddls: [u16; 1024],
+    pub luminances: [u32; 1024],
+    pub patches: usize,
+    pub check: [u32; 18],
+}
+
+// ---- numbers in bytes
+
+fn u16_at(s: &[u8], at: usize) -> u16
+    requires { ⌜ at + 1 < length (now s) ⌝ }
+    ensures { λ r. ⌜ r ≡ word at (now (s .entry)) ⌝ }
+{
+    let low = s[at] as u16;
+    let high = s[at + 1] as u16;
+    low + 256 * high
+}
+
+fn u32_at(s: &[u8], at: usize) -> u32
+    requires { ⌜ at + 3 < length (now s) ⌝ }
+    ensures { λ r. ⌜ r ≡ long at (now (s .entry)) ⌝ }
+{
+    let low = u16_at(s, at) as u32;
+    let high = u16_at(s, at + 2) as u32;
+    low + 65536 * high
+}
+
+// ---- sections
+
+fn permits(k: Section, n: usize) -> bool
+    ensures { λ r. ⌜ r ≡ permitted k n ⌝ }
+{
+    match k {
+        Section::Settings => n == 5,
+        Section::Lamps => n <= 8,
+        Section::Sweep => (2 <= n) & (n <= 1024),
+        Section::Check => (n == 0) | (n == 18),
+    }
+}
+
+fn item_width(k: Section) -> usize
+    ensures { λ r. ⌜ (r ≡ width k) × (r ≤ 6) ⌝ }
+{
+    match k {
+        Section::Settings => 2,
+        Section::Lamps => 2,
+        Section::Sweep => 6,
+        Section::Check => 4,
+    }
+}
+
+// The section that starts at `at`.
+fn section_count(bytes: &[u8], at: usize, k: Section) -> SectionCount
+    requires { ⌜ at ≤ length (now bytes) ⌝ }
+    ensures { λ r. ⌜ r ≡ countOf k (drop at (now (bytes .entry))) ⌝ }
+{
+    let left = bytes.len() - at;
+    if left < 2 {
+        return SectionCount::Fault(Refusal::RecordTooShort);
+    }
+    let n = u16_at(bytes, at) as usize;
+    if permits(k, n) {
+        let size = 2 + n * item_width(k);
+        if size <= left {
+            return SectionCount::Items(n);
+        }
+        return SectionCount::Fault(Refusal::RecordTooShort);
+    }
+    SectionCount::Fault(Refusal::CountNotPermitted)
+}
+
+// How many items each section has, or the first fault met from front to back.
+fn read_layout(bytes: &[u8]) -> Layout
+    ensures { λ r. ⌜ r ≡ layoutOf (now (bytes .entry)) ⌝ }
+{
+    let settings_found = section_count(bytes, 0, Section::Settings);
+    let settings = match settings_found {
+        SectionCount::Items(n) => n,
+        SectionCount::Fault(r) => {
+            return Layout::Broken(r);
+        }
+    };
+    let at_lamps = 2 + settings * 2;
+    let lamps_found = section_count(bytes, at_lamps, Section::Lamps);
+    let lamps = match lamps_found {
+        SectionCount::Items(n) => n,
+        SectionCount::Fault(r) => {
+            return Layout::Broken(r);
+        }
+    };
+    let at_sweep = at_lamps + (2 + lamps * 2);
+    let sweep_found = section_count(bytes, at_sweep, Section::Sweep);
+    let sweep = match sweep_found {
+        SectionCount::Items(n) => n,
+        SectionCount::Fault(r) => {
+            return Layout::Broken(r);
+        }
+    };
+    let at_check = at_sweep + (2 + sweep * 6);
+    let check_found = section_count(bytes, at_check, Section::Check);
+    let check = match check_found {
+        SectionCount::Items(n) => n,
+        SectionCount::Fault(r) => {
+            return Layout::Broken(r);
+        }
+    };
+    let end = at_check + (2 + check * 4);
+    if end < bytes.len() {
+        return Layout::Broken(Refusal::TrailingBytes);
+    }
+    Layout::Complete(settings, lamps, sweep, check)
+}
+
+// ---- settings
+
+fn meter_of(n: u16) -> Meter
+    ensures { λ r. ⌜ r ≡ meterOf n ⌝ }
+{
+    if n == 0 {
+        return Meter::Contact;
+    }
+    Meter::Telescopic
+}
+
+fn class_of(n: u16) -> Class
+    ensures { λ r. ⌜ r ≡ classOf n ⌝ }
+{
+    if n == 1 {
+        return Class::Primary;
+    }
+    Class::Secondary
+}
+
+fn is_within(low: u16, high: u16, n: u16) -> bool
+    ensures { λ r. ⌜ r ≡ within low high n ⌝ }
+{
+    (low <= n) & (n <= high)
+}
+
+// Test 5 for the settings' items.
+fn settings_in_range(items: &[u8]) -> bool
+    requires { ⌜ length (now items) ≡ 10 ⌝ }
+    ensures { λ r. ⌜ r ≡ settingsInRange (fields 2 (word 0) 5 (now (items .entry))) ⌝ }
+{
+    let depth = is_within(8, 10, u16_at(items, 0));
+    let meter = is_within(0, 1, u16_at(items, 2));
+    let class = is_within(1, 2, u16_at(items, 4));
+    let reflectance = is_within(0, 1000, u16_at(items, 6));
+    let tolerance = is_within(0, 1000, u16_at(items, 8));
+    depth & meter & class & reflectance & tolerance
+}
+
+fn read_settings(items: &[u8]) -> JobSettings
+    requires { ⌜ length (now items) ≡ 10 ⌝ }
+    ensures { λ r. ⌜ r ≡ settingsOf (fields 2 (word 0) 5 (now (items .entry))) ⌝ }
+{
+    let depth = u16_at(items, 0);
+    let meter_number = u16_at(items, 2);
+    let meter = meter_of(meter_number);
+    let class_number = u16_at(items, 4);
+    let class = class_of(class_number);
+    let reflectance = u16_at(items, 6);
+    let tolerance = u16_at(items, 8);
+    JobSettings {
+        depth: depth,
+        meter: meter,
+        class: class,
+        reflectance: Reflectance(reflectance),
+        tolerance: tolerance,
+    }
+}
+
+// ---- lamps
+
+// Test 5 for the lamps' items.
+fn lamps_in_range(items: &[u8], n: usize) -> bool
+    requires { ⌜ (n ≤ 8) × (length (now items) ≡ n * 2) ⌝ }
+    ensures { λ r. ⌜ r ≡ lampsInRange (fields 2 (word 0) n (now (items .entry))) ⌝ }
+{
+    let mut i: usize = 0;
+    while i < n {
+        let lux = u16_at(items, i * 2);
+        if 2000 < lux {
+            return false;
+        }
+        i += 1;
+    }
+    true
+}
+
+fn read_lamps(items: &[u8], n: usize) -> Lux
+    requires { ⌜ (n ≤ 8) × (length (now items) ≡ n * 2) ⌝ }
+    ensures { λ r. ⌜ r .0 ≡ sum (fields 2 (word 0) n (now (items .entry))) ⌝ }
+{
+    let mut total: u32 = 0;
+    let mut i: usize = 0;
+    while i < n {
+        let lux = u16_at(items, i * 2);
+        total += lux as u32;
+        i += 1;
+    }
+    Lux(total)
+}
+
+// ---- readings
+
+// The sweep's items, into the front of two arrays.
+fn read_sweep(items: &[u8], n: usize, ddls: &mut [u16], luminances: &mut [u32])
+    requires { ⌜ (n ≤ 1024) × (length (now items) ≡ n * 6) × (length (now ddls) ≡ 1024) × (length (now luminances) ≡ 1024) ⌝ }
+    ensures { λ r. ⌜ (now (ddls .exit) ≡ fields 6 (word 0) n (now (items .entry)) ++ drop n (now (ddls .entry)))
+        × (now (luminances .exit) ≡ fields 6 (long 2) n (now (items .entry)) ++ drop n (now (luminances .entry))) ⌝ }
+{
+    let mut i: usize = 0;
+    while i < n {
+        let at = i * 6;
+        ddls[i] = u16_at(items, at);
+        luminances[i] = u32_at(items, at + 2);
+        i += 1;
+    }
+}
+
+// The check's items, into the front of an array.
+fn read_check(items: &[u8], n: usize, check: &mut [u32])
+    requires { ⌜ (n ≤ 18) × (length (now items) ≡ n * 4) × (length (now check) ≡ 18) ⌝ }
+    ensures { λ r. ⌜ now (check .exit) ≡ fields 4 (long 0) n (now (items .entry)) ++ drop n (now (check .entry)) ⌝ }
+{
+    let mut i: usize = 0;
+    while i < n {
+        check[i] = u32_at(items, i * 4);
+        i += 1;
+    }
+}
+
+// ---- tests 6 and 7
+
+// The largest drive level of a depth.
+pub fn max_ddl(depth: u16) -> Ddl
+    requires { ⌜ (8 ≤ depth) × (depth ≤ 10) ⌝ }
+    ensures { λ r. ⌜ r .0 ≡ maxDdl depth ⌝ }
+{
+    if depth == 8 {
+        return Ddl(255);
+    }
+    if depth == 9 {
+        return Ddl(511);
+    }
+    Ddl(1023)
+}
+
+fn rise_strictly(ddls: &[u16], n: usize) -> bool
+    requires { ⌜ (1 ≤ n) × (n ≤ length (now ddls)) ⌝ }
+    ensures { λ r. ⌜ r ≡ risesBy 1 (take n (now (ddls .entry))) ⌝ }
+{
+    let mut last = ddls[0];
+    let mut i: usize = 1;
+    while i < n {
+        let ddl = ddls[i];
+        if ddl <= last {
+            return false;
+        }
+        last = ddl;
+        i += 1;
+    }
+    true
+}
+
+fn never_fall(luminances: &[u32], n: usize) -> bool
+    requires { ⌜ (1 ≤ n) × (n ≤ length (now luminances)) ⌝ }
+    ensures { λ r. ⌜ r ≡ neverFalls (take n (now (luminances .entry))) ⌝ }
+{
+    let mut last = luminances[0];
+    let mut i: usize = 1;
+    while i < n {
+        let luminance = luminances[i];
+        if luminance < last {
+            return false;
+        }
+        last = luminance;
+        i += 1;
+    }
+    true
+}
+
+// Test 6.
+fn ddls_span(ddls: &[u16], n: usize, top: Ddl) -> bool
+    requires { ⌜ (1 ≤ n) × (n ≤ length (now ddls)) ⌝ }
+    ensures { λ r. ⌜ r ≡ spans (top .0) (take n (now (ddls .entry))) ⌝ }
+{
+    let highest = top.0;
+    let first = ddls[0];
+    let rising = rise_strictly(ddls, n);
+    let last = ddls[n - 1];
+    (first == 0) & rising & (last == highest)
+}
+
+// ---- the record
+
+// Tests 5, 6 and 7 in their order.
+fn judge(
+    settings: &[u8],
+    lamps: &[u8],
+    number: usize,
+    ddls: &[u16],
+    luminances: &[u32],
+    n: usize,
+) -> Answer
+    requires { ⌜ Judgeable (now settings) (now lamps) number (now ddls) (now luminances) n ⌝ }
+    ensures { λ r. ⌜ r ≡ judged (fields 2 (word 0) 5 (now (settings .entry))) (fields 2 (word 0) number (now (lamps .entry))) (take n (now (ddls .entry))) (take n (now (luminances .entry))) ⌝ }
+{
+    let in_range = settings_in_range(settings) & lamps_in_range(lamps, number);
+    if !in_range {
+        return Answer::Refused(Refusal::OutOfRange);
+    }
+    let job_settings = read_settings(settings);
+    let depth = job_settings.depth;
+    let top = max_ddl(depth);
+    if !ddls_span(ddls, n, top) {
+        return Answer::Refused(Refusal::DdlsNotRising);
+    }
+    if !never_fall(luminances, n) {
+        return Answer::Refused(Refusal::LuminanceFalls);
+    }
+    let lux = read_lamps(lamps, number);
+    Answer::Accepted(Job {
+        settings: job_settings,
+        lamps: lux,
+    })
+}
+
+// A record whose sections are complete: each section's items go to its own reader.
+fn read_sections(bytes: &[u8], a: usize, b: usize, c: usize, d: usize) -> JobRecord
+    requires { ⌜ layoutOf (now bytes) ≡ Layout.Complete a b c d ⌝ }
+    ensures { λ r. ⌜ ReadFrom (now (bytes .entry)) r ⌝ }
+{
+    let at_lamps = 2 + a * 2;
+    let at_sweep = at_lamps + (2 + b * 2);
+    let at_check = at_sweep + (2 + c * 6);
+    let end = at_check + (2 + d * 4);
+    let mut ddls = [0u16; 1024];
+    let mut luminances = [0u32; 1024];
+    let mut check = [0u32; 18];
+    read_sweep(
+        &bytes[at_sweep + 2..at_check],
+        c,
+        &mut ddls,
+        &mut luminances,
+    );
+    read_check(&bytes[at_check + 2..end], d, &mut check);
+    let answer = judge(
+        &bytes[2..at_lamps],
+        &bytes[at_lamps + 2..at_sweep],
+        b,
+        &ddls,
+        &luminances,
+        c,
+    );
+    JobRecord {
+        answer: answer,
+        readings: c,
+        ddls: ddls,
+        luminances: luminances,
+        patches: d,
+        check: check,
+    }
+}
+
+// What a record of any bytes holds.
+pub fn read_record(bytes: &[u8]) -> JobRecord
+    ensures { λ r. ⌜ ReadFrom (now (bytes .entry)) r ⌝ }
+{
+    let found = read_layout(bytes);
+    match found {
+        Layout::Complete(a, b, c, d) => read_sections(bytes, a, b, c, d),
+        Layout::Broken(r) => JobRecord {
+            answer: Answer::Refused(r),
+            readings: 0,
+            ddls: [0u16; 1024],
+            luminances: [0u32; 1024],
+            patches: 0,
+            check: [0u32; 18],
+        },
+    }
+}

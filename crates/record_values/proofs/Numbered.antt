@@ -1,0 +1,41 @@
+-- The numbers of an answer, from those of its parts.
+-- Assumes nothing.
+use Prim.Native.Nat.{ℕ}
+use mathlib.Core.List.{List}
+use mathlib.Core.Path.{_≡_, refl, ap, _∙_}
+use Rattle.record.specs.Refusals.{refusalNumber}
+use Rattle.record.specs.Reader.{ReadFrom}
+use Rattle.record.specs.declared.Refusal.{Refusal}
+use Rattle.record.specs.declared.Job.{Job}
+use Rattle.record.specs.declared.JobRecord.{JobRecord}
+use Rattle.record.specs.declared.Answer.{Answer}
+use Rattle.record.specs.declared.Answer.the-variants.{Accepted, Refused}
+use Rattle.record_values.specs.declared.Numbers.{Numbers}
+use Rattle.record_values.specs.Values.{meterNumber, classNumber, numbersOf, ValuesOf}
+
+pub numbers-accepted : {answer : Answer} {job : Job} {m k : ℕ} → answer ≡ Accepted job → m ≡ meterNumber (job .settings .meter) → k ≡ classNumber (job .settings .class)
+    → record {
+      refusal = 0;
+      depth = job .settings .depth;
+      meter = m;
+      class = k;
+      reflectance = job .settings .reflectance .0;
+      tolerance = job .settings .tolerance;
+      lux = job .lamps .0;
+    } ≡ numbersOf answer
+numbers-accepted e f g = rw (e, f, g)
+
+pub numbers-refused : {answer : Answer} {r : Refusal} {n : ℕ} → answer ≡ Refused r → n ≡ refusalNumber r
+    → record { refusal = n; depth = 0; meter = 0; class = 0; reflectance = 0; tolerance = 0; lux = 0 } ≡ numbersOf answer
+numbers-refused e f = rw (e, f)
+
+pub values-of : {s : List ℕ} {r : JobRecord} {x : Numbers} → ReadFrom s r → x ≡ numbersOf (r .answer)
+    → ValuesOf s (record { answer = x; readings = r .readings; ddls = r .ddls; luminances = r .luminances; patches = r .patches; check = r .check })
+values-of h e = record {
+  answer = e ∙ ap numbersOf (h .answer);
+  readings = h .readings;
+  ddls = h .ddls;
+  luminances = h .luminances;
+  patches = h .patches;
+  check = h .check;
+}
