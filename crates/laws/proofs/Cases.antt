@@ -12,6 +12,21 @@ pub by {ℓ} : {X : Type ℓ} (b : Bool) → (b ≡ true → X) → (b ≡ false
 by true f g = f refl
 by false f g = g refl
 
+-- a test and its outcome
+pub is-yes : (b : Bool) → T b → b ≡ true
+is-yes true t = refl
+is-yes false t = absurd t
+
+pub is-no : (b : Bool) → T (not b) → b ≡ false
+is-no true t = absurd t
+is-no false t = refl
+
+pub yes-is : {b : Bool} → b ≡ true → T b
+yes-is e = rw e tt
+
+pub no-is : {b : Bool} → b ≡ false → T (not b)
+no-is e = rw e tt
+
 pub le-or-lt : (a b : ℕ) → (a ≤ b) ⊎ (b < a)
 le-or-lt a b = by (leb a b) (λ e. inl (leb-true a b e)) (λ e. inr (leb-false a b e))
 

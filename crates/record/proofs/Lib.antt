@@ -4,3 +4,7 @@ pub mod Counted
 pub mod Judged
 pub mod Placed
 pub mod Reading
+pub mod Written
+pub mod RoundTrip
+pub mod Outcomes
+pub mod Lengths
