@@ -3,36 +3,69 @@
 use Prim.Native.Nat.{ℕ, _+_, _-_, _≤_}
 use mathlib.Core.Path.{_≡_, refl, sym, ap, _∙_}
 use mathlib.Core.List.{List, [], _∷_}
-use mathlib.Core.Bool.{Bool, true, false, false≢true, _&&_}
+use mathlib.Core.Bool.{Bool, true, false, _&&_}
 use lib.ListN.{length, take, drop, getD}
 use lib.Seq.{drop-drop, getD-take, length-take-le}
-use lib.Dec.{eqb, leb}
+use lib.Dec.{T, eqb, leb}
 use native.Mathlib.Omega.{arith}
-use borrow.Author.Tests.{leb-true}
-use Rattle.laws.proofs.Cases.{by}
+use mir.Facts.{and-yes, leb-yes}
+use Rattle.laws.proofs.Cases.{yes-is}
 use Rattle.laws.specs.Rises.{risesBy}
 use Rattle.record.specs.Bytes.{word, fields}
-use Rattle.record.specs.Tests.{within, settingsInRange, settingsOf, lampsInRange, spans, neverFalls, maxDdl, sum, jobOf, judged}
+use Rattle.record.specs.Tests.{within, meterOf, classOf, settingsInRange, settingsOf, lampsInRange, spans, neverFalls, maxDdl, sum, jobOf, judged}
 use Rattle.units.specs.declared.Lux.{Lux}
+use Rattle.record.specs.declared.Meter.{Meter}
+use Rattle.record.specs.declared.Class.{Class}
 use Rattle.record.specs.declared.JobSettings.{JobSettings}
 use Rattle.record.specs.declared.Refusal.the-variants.{OutOfRange, DdlsNotRising, LuminanceFalls}
 use Rattle.record.specs.declared.Answer.the-variants.{Accepted, Refused}
 use Rattle.record.proofs.Fields.{word-front}
 
 -- the five settings, at their places
-pub five-words : (s : List ℕ) → fields 2 (word 0) 5 s ≡ word 0 s ∷ word 2 s ∷ word 4 s ∷ word 6 s ∷ word 8 s ∷ []
+five-words : (s : List ℕ) → fields 2 (word 0) 5 s ≡ word 0 s ∷ word 2 s ∷ word 4 s ∷ word 6 s ∷ word 8 s ∷ []
 unfolding fields
-five-words s = rw (drop-drop, drop-drop, drop-drop, word-front s 2, word-front s 4, word-front s 6, word-front s 8)
+five-words s = rw (drop-drop 2 2 s, drop-drop 2 4 s, drop-drop 2 6 s, word-front s 2, word-front s 4, word-front s 6, word-front s 8)
 
--- settings in range have a depth from 8 to 10
-depth-in-range : (xs : List ℕ) → settingsInRange xs ≡ true → (8 ≤ getD xs 0 0) × (getD xs 0 0 ≤ 10)
+module _ (s : List ℕ) {b m k r w : ℕ} (e₀ : b ≡ word 0 s) (e₁ : m ≡ word 2 s) (e₂ : k ≡ word 4 s) (e₃ : r ≡ word 6 s) (e₄ : w ≡ word 8 s) where
+  five-are : fields 2 (word 0) 5 s ≡ b ∷ m ∷ k ∷ r ∷ w ∷ []
+  five-are = five-words s ∙ rw (e₀, e₁, e₂, e₃, e₄)
+
+  -- their test, by its five parts
+  pub range-by : {b′ m′ k′ r′ w′ : Bool} → b′ ≡ within 8 10 b → m′ ≡ within 0 1 m → k′ ≡ within 1 2 k → r′ ≡ within 0 1000 r → w′ ≡ within 0 1000 w
+      → b′ && m′ && k′ && r′ && w′ ≡ settingsInRange (fields 2 (word 0) 5 s)
+  unfolding settingsInRange
+  range-by f₀ f₁ f₂ f₃ f₄ = rw (five-are, f₀, f₁, f₂, f₃, f₄)
+
+  -- and the settings themselves
+  pub settings-by : {m′ : Meter} {k′ : Class} → m′ ≡ meterOf m → k′ ≡ classOf k
+      → record { depth = b; meter = m′; class = k′; reflectance = record { 0 = r }; tolerance = w } ≡ settingsOf (fields 2 (word 0) 5 s)
+  unfolding settingsOf
+  settings-by f g = rw (five-are, f, g)
+
+-- what the test of the settings says of those that the layers above work with
+pub record Ranges (xs : List ℕ) : Type 0 where
+  pub depth-low : 8 ≤ getD xs 0 0
+  pub depth-high : getD xs 0 0 ≤ 10
+  pub reflectance : getD xs 3 0 ≤ 1000
+  pub tolerance : getD xs 4 0 ≤ 1000
+
+pub ranges : (xs : List ℕ) → T (settingsInRange xs) → Ranges xs
 unfolding settingsInRange
-depth-in-range xs h =
-    by (leb 8 (getD xs 0 0))
-    (λ p. by (leb (getD xs 0 0) 10)
-    (λ q. (leb-true _ _ p, leb-true _ _ q))
-    (λ q. absurd (false≢true (simp (p, q) at h))))
-    (λ p. absurd (false≢true (simp p at h)))
+ranges xs t =
+    let b = within 8 10 (getD xs 0 0) in
+    let m = within 0 1 (getD xs 1 0) in
+    let k = within 1 2 (getD xs 2 0) in
+    let r = within 0 1000 (getD xs 3 0) in
+    let (to-r, of-w) = and-yes (b && m && k && r) (within 0 1000 (getD xs 4 0)) t in
+    let (to-k, of-r) = and-yes (b && m && k) r to-r in
+    let (of-b, of-m) = and-yes b m (and-yes (b && m) k to-k .0) in
+    let (low, high) = and-yes (leb 8 (getD xs 0 0)) (leb (getD xs 0 0) 10) of-b in
+    record {
+      depth-low = leb-yes low;
+      depth-high = leb-yes high;
+      reflectance = leb-yes (and-yes (leb 0 (getD xs 3 0)) (leb (getD xs 3 0) 1000) of-r .1);
+      tolerance = leb-yes (and-yes (leb 0 (getD xs 4 0)) (leb (getD xs 4 0) 1000) of-w .1);
+    }
 
 and-left : (a b : Bool) → (a && b) ≡ true → a ≡ true
 and-left true b h = refl
@@ -57,7 +90,9 @@ module _ (st la dd lu : List ℕ) {a b : Bool} (p : a ≡ settingsInRange st) (q
     depth-is = ap (λ (x : JobSettings). x .depth) e
 
     pub depth-fits : (8 ≤ job .depth) × (job .depth ≤ 10)
-    depth-fits = rw depth-is (depth-in-range st (sym p ∙ and-left a b h))
+    depth-fits =
+        let r = ranges st (yes-is (sym p ∙ and-left a b h)) in
+        rw depth-is (r .depth-low, r .depth-high)
 
     module _ {m : ℕ} (f : m ≡ maxDdl (job .depth)) {c : Bool} (g : c ≡ spans m dd) where
       spans-is : spans (maxDdl (getD st 0 0)) dd ≡ c

@@ -8,3 +8,4 @@ pub mod Written
 pub mod RoundTrip
 pub mod Outcomes
 pub mod Lengths
+pub mod Accepted

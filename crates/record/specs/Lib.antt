@@ -6,3 +6,4 @@ pub mod Reader
 pub mod Written
 pub mod Outcome
 pub mod Lengths
+pub mod Accepted

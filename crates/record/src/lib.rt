@@ -166,14 +166,15 @@ fn section_count(bytes: &[u8], at: usize, k: Section) -> SectionCount
         return SectionCount::Fault(Refusal::RecordTooShort);
     }
     let n = u16_at(bytes, at) as usize;
-    if permits(k, n) {
-        let size = 2 + n * item_width(k);
-        if size <= left {
-            return SectionCount::Items(n);
-        }
-        return SectionCount::Fault(Refusal::RecordTooShort);
+    let size = 2 + n * item_width(k);
+    let permitted = permits(k, n);
+    if !permitted {
+        return SectionCount::Fault(Refusal::CountNotPermitted);
     }
-    SectionCount::Fault(Refusal::CountNotPermitted)
+    if size <= left {
+        return SectionCount::Items(n);
+    }
+    SectionCount::Fault(Refusal::RecordTooShort)
 }
 
 // How many items each section has, or the first fault met from front to back.

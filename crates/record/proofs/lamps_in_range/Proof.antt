@@ -29,7 +29,7 @@ u16-at-requires c κs = omega arith
 
 -- src/lib.rt:329:13
 returns : tie.Need-returns Inv-loop μ-loop
-returns c = up-to-not (c .before .before .before .loop .inv .1) _ (word-more 2 _ _ (c .before .before .before .loop .i) _ (c .before .before .loop-test .taken) (c .before .u16-at .ensures)) (c .if1 .taken)
+returns c = up-to-not (c .before .before .before .loop .inv .1) _ (word-more 2 _ _ (c .before .before .before .loop .i) _ (c .before .before .loop-test .taken) (c .before .u16-at .ensures)) (omega arith)
 
 -- src/lib.rt:331:9
 add-i : tie.Need-add-i Inv-loop μ-loop
@@ -41,7 +41,7 @@ loop-less c = omega arith
 
 -- src/lib.rt:326:5
 loop-again : tie.Need-loop-again Inv-loop μ-loop
-loop-again c = (omega arith, up-to-more (c .before .before .before .loop .inv .1) _ (word-more 2 _ _ (c .before .before .before .loop .i) _ (c .before .before .loop-test .taken) (c .before .u16-at .ensures)) (c .if1 .left))
+loop-again c = (omega arith, up-to-more (c .before .before .before .loop .inv .1) _ (word-more 2 _ _ (c .before .before .before .loop .i) _ (c .before .before .loop-test .taken) (c .before .u16-at .ensures)) (omega arith))
 
 -- src/lib.rt:321:1
 returns-2 : tie.Need-returns-2 Inv-loop μ-loop

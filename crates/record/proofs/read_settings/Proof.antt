@@ -1,5 +1,4 @@
-use Rattle.record.proofs.Judged.{five-words}
-use Rattle.record.specs.Tests.{settingsOf}
+use Rattle.record.proofs.Judged.{settings-by}
 use borrow.Author.Needs.{needs}
 use Rattle.record.proofs.read_settings.Statement.{statement}
 use Rattle.record.proofs.read_settings.Tie as tie
@@ -39,8 +38,7 @@ u16-at-requires-5 c κs = search needs
 
 -- src/lib.rt:298:1
 returns : tie.Need-returns
-unfolding settingsOf
-returns c = rw five-words (cc)
+returns c = settings-by _ (c .before .before .before .before .before .before .u16-at .ensures) (c .before .before .before .before .before .u16-at2 .ensures) (c .before .before .before .u16-at3 .ensures) (c .before .u16-at4 .ensures) (c .u16-at5 .ensures) (c .before .before .before .before .meter-of .ensures) (c .before .before .class-of .ensures)
 
 pub read-settings-spec : {M : Type 1} → statement M
 read-settings-spec =

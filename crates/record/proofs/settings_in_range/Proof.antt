@@ -1,5 +1,4 @@
-use Rattle.record.proofs.Judged.{five-words}
-use Rattle.record.specs.Tests.{settingsInRange}
+use Rattle.record.proofs.Judged.{range-by}
 use borrow.Author.Needs.{needs}
 use Rattle.record.proofs.settings_in_range.Statement.{statement}
 use Rattle.record.proofs.settings_in_range.Tie as tie
@@ -50,8 +49,7 @@ is-within-requires-5 c κs = search needs
 
 -- src/lib.rt:274:1
 returns : tie.Need-returns
-unfolding settingsInRange
-returns c = rw five-words (cc)
+returns c = range-by _ (c .before .before .before .before .before .before .before .before .before .u16-at .ensures) (c .before .before .before .before .before .before .before .u16-at2 .ensures) (c .before .before .before .before .before .u16-at3 .ensures) (c .before .before .before .u16-at4 .ensures) (c .before .u16-at5 .ensures) (c .before .before .before .before .before .before .before .before .is-within .ensures) (c .before .before .before .before .before .before .is-within2 .ensures) (c .before .before .before .before .is-within3 .ensures) (c .before .before .is-within4 .ensures) (c .is-within5 .ensures)
 
 pub settings-in-range-spec : {M : Type 1} → statement M
 settings-in-range-spec =

@@ -28,7 +28,7 @@ cast-high c = omega (arith, c .shared-slice-known2 .given (c .before .before .ar
 
 -- src/lib.rt:131:11
 mul-result : tie.Need-mul-result
-mul-result c = omega (arith, c .shared-slice-known2 .given (c .before .before .args .at + 1))
+mul-result c = omega (arith, c .shared-slice-known2 .given (c .before .before .args .at), c .shared-slice-known2 .given (c .before .before .args .at + 1))
 
 -- src/lib.rt:131:5
 add-result : tie.Need-add-result

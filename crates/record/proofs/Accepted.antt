@@ -1,0 +1,91 @@
+-- What an accepted record promises to the layers above.
+-- Assumes nothing.
+use Prim.Native.Nat.{ℕ, zero, suc, _+_, _*_, _≤_}
+use mathlib.Core.Path.{_≡_, refl, sym, ap, _∙_}
+use mathlib.Core.List.{List, [], _∷_}
+use mathlib.Core.Bool.{Bool, true, false, _&&_}
+use lib.ListN.{length, getD}
+use lib.Dec.{T, leb}
+use native.Mathlib.Omega.{arith}
+use native.Mathlib.Nat.{suc-mul, mul-le-mul}
+use mir.Facts.{and-yes}
+use Rattle.laws.proofs.Cases.{by, yes-is}
+use Rattle.record.specs.Bytes.{fields}
+use Rattle.record.specs.Sections.{permitted, Sections, lists, unread, sections, layoutOf, ddlsOf, luminancesOf, checkOf}
+use Rattle.record.specs.Tests.{within, settingsInRange, allUpTo, lampsInRange, spans, maxDdl, neverFalls, settingsOf, sum, jobOf, judged, judgedOf, answerOf}
+use Rattle.record.specs.Accepted.{AcceptedJob}
+use Rattle.record.specs.declared.Section.the-variants.{Sweep, Check}
+use Rattle.record.specs.declared.Layout.{Layout}
+use Rattle.record.specs.declared.Layout.the-variants.{Complete, Broken}
+use Rattle.record.specs.declared.Refusal.{Refusal}
+use Rattle.record.specs.declared.Job.{Job}
+use Rattle.record.specs.declared.Answer.{Answer}
+use Rattle.record.specs.declared.Answer.the-variants.{Accepted, Refused}
+use Rattle.record.proofs.Judged.{Ranges, ranges}
+use Rattle.record.proofs.Fields.{fields-length}
+use Rattle.record.proofs.Placed.{Placed, placed, Sizes, sizes}
+use Rattle.record.proofs.Reading.{lists-of}
+use Rattle.record.proofs.Written.{up-to-first, up-to-rest}
+
+never : {r : Refusal} {job : Job} → Refused r ≡ Accepted job → ⊥
+never e = let z : _≡_ {A = ℕ} 0 1 = cc in omega arith
+
+-- all three tests passed
+record Passed (st la dd lu : List ℕ) (job : Job) : Type 0 where
+  settings : T (settingsInRange st)
+  lamps : T (lampsInRange la)
+  ddls : T (spans (maxDdl (getD st 0 0)) dd)
+  luminances : T (neverFalls lu)
+  is : job ≡ jobOf st la
+
+passed : (st la dd lu : List ℕ) (job : Job) → judged st la dd lu ≡ Accepted job → Passed st la dd lu job
+unfolding judged
+passed st la dd lu job e =
+    by (settingsInRange st && lampsInRange la)
+    (λ a. by (spans (maxDdl (getD st 0 0)) dd)
+    (λ b. by (neverFalls lu)
+    (λ c.
+    let (p, q) = and-yes (settingsInRange st) (lampsInRange la) (yes-is a) in
+    let f : Accepted (jobOf st la) ≡ Accepted job = simp (a, b, c) at e in
+    record { settings = p; lamps = q; ddls = yes-is b; luminances = yes-is c; is = cc })
+    (λ c. absurd (never (simp (a, b, c) at e))))
+    (λ b. absurd (never (simp (a, b) at e))))
+    (λ a. absurd (never (simp a at e)))
+
+-- the sum of n numbers that are at most m
+sum-up-to : (m : ℕ) (xs : List ℕ) → T (allUpTo m xs) → sum xs ≤ length xs * m
+unfolding sum
+sum-up-to m [] t = omega arith
+sum-up-to m (x ∷ xs) t = omega (arith, up-to-first m x xs t, sum-up-to m xs (up-to-rest m x xs t), suc-mul (length xs) m)
+
+-- the record's lists, tested
+module _ (s : List ℕ) (job : Job) (h : answerOf s ≡ Accepted job) where
+  from-lists : (st la dd lu ch : List ℕ) → sections s ≡ lists st la dd lu ch → length la ≤ 8 → T (permitted Sweep (length dd)) → length lu ≡ length dd → T (permitted Check (length ch)) → AcceptedJob s job
+  unfolding answerOf settingsOf
+  from-lists st la dd lu ch e l m n o =
+      let p = passed st la dd lu job (simp e at h) in
+      let r = ranges st (p .settings) in
+      rw (p .is)
+      (record {
+        depth-low = r .depth-low;
+        depth-high = r .depth-high;
+        reflectance = r .reflectance;
+        tolerance = r .tolerance;
+        lamps = omega (arith, sum-up-to 2000 la (p .lamps));
+        readings = rw e m;
+        pairs = rw e n;
+        patches = rw e o;
+        ddls = rw e (p .ddls);
+        luminances = rw e (p .luminances);
+      })
+
+  from-layout : (l : Layout) → layoutOf s ≡ l → AcceptedJob s job
+  unfolding answerOf sections
+  from-layout (Broken r) e = absurd (never (simp e at h))
+  from-layout (Complete a b c d) e =
+      let p = placed s a b c d e in
+      let z = sizes s a b c d e in
+      from-lists _ _ _ _ _ (lists-of s a b c d e) (rw fields-length (z .lamps)) (rw fields-length (yes-is (p .sweep .may))) (rw (fields-length, fields-length)) (rw fields-length (yes-is (p .check .may)))
+
+  pub accepted-job : AcceptedJob s job
+  accepted-job = from-layout (layoutOf s) refl
