@@ -8,6 +8,10 @@
 use std::time::Instant;
 
 use compare::gsdf::{raw, Table};
+use compare::record::{self, RecordValues};
+use reference::record::Record;
+
+mod record_in_rust;
 
 /// The methods of crate `gsdf`, written in Rust.
 mod rust {
@@ -51,6 +55,7 @@ mod rust {
 enum Function {
     Luminance,
     Index,
+    Record,
 }
 
 #[derive(Clone, Copy, PartialEq)]
@@ -59,10 +64,35 @@ enum Side {
     Rust,
 }
 
+/// The inputs of `Function::Record` are places in the list of records.
 struct Case {
     name: &'static str,
     function: Function,
     inputs: Vec<u32>,
+}
+
+/// What the functions work on.
+struct Material {
+    table: Table,
+    records: Vec<Vec<u8>>,
+}
+
+/// Sound records of depth 10 with 8 lamps and a check: two readings, 64 and 1,024.
+fn records() -> Vec<Vec<u8>> {
+    let record = |readings: u64| Record {
+        settings: vec![10, 0, 1, 60, 100],
+        lamps: (0..8).map(|i| 100 + i).collect(),
+        ddls: (0..readings).map(|i| 1023 * i / (readings - 1)).collect(),
+        luminances: (0..readings).map(|i| 1_000 + 3_000 * i).collect(),
+        check: (0..18).map(|i| 10_000 + 1_000 * i).collect(),
+    };
+    [2, 64, 1024].iter().map(|&readings| record(readings).bytes()).collect()
+}
+
+/// A number to which each part of the values contributes.
+fn digest(values: &RecordValues) -> u32 {
+    let last = values.readings - 1;
+    values.refusal + values.lux + u32::from(values.ddls[last]) + values.luminances[last] + values.check[values.patches - 1]
 }
 
 /// A small generator (xorshift) with a fixed seed, so that each run has the same inputs.
@@ -91,36 +121,42 @@ fn cases() -> Vec<Case> {
         Case { name: "luminance-scattered", function: Function::Luminance, inputs: indices },
         Case { name: "index-scattered", function: Function::Index, inputs: luminances },
         Case { name: "index-rising", function: Function::Index, inputs: rising },
+        Case { name: "record-2", function: Function::Record, inputs: vec![0; 1_000] },
+        Case { name: "record-64", function: Function::Record, inputs: vec![1; 1_000] },
+        Case { name: "record-1024", function: Function::Record, inputs: vec![2; 1_000] },
     ]
 }
 
 /// Hands over each result of a case, in the order of its inputs, which keep to what the functions ask: see `cases`.
 #[inline(always)]
-fn each(case: &Case, side: Side, table: &Table, mut take: impl FnMut(u32)) {
-    let entries = table.entries();
+fn each(case: &Case, side: Side, material: &Material, mut take: impl FnMut(u32)) {
+    let entries = material.table.entries();
+    let bytes = |&place: &u32| &material.records[place as usize][..];
     let inputs = case.inputs.iter();
     match (case.function, side) {
         (Function::Luminance, Side::Engine) => inputs.for_each(|&k| take(unsafe { raw::gsdf_luminance_in(entries.as_ptr(), k) })),
         (Function::Luminance, Side::Rust) => inputs.for_each(|&k| take(rust::luminance_in(entries, k))),
         (Function::Index, Side::Engine) => inputs.for_each(|&l| take(unsafe { raw::gsdf_index_in(entries.as_ptr(), l) })),
         (Function::Index, Side::Rust) => inputs.for_each(|&l| take(rust::index_in(entries, l))),
+        (Function::Record, Side::Engine) => inputs.for_each(|place| take(digest(&record::read(bytes(place))))),
+        (Function::Record, Side::Rust) => inputs.for_each(|place| take(digest(&record_in_rust::read(bytes(place))))),
     }
 }
 
 /// One pass over a case's inputs; the sum of the results.
 #[no_mangle]
 #[inline(never)]
-fn measured_pass(case: &Case, side: Side, table: &Table) -> u64 {
+fn measured_pass(case: &Case, side: Side, material: &Material) -> u64 {
     let mut sum = 0;
-    each(case, side, table, |result| sum += u64::from(result));
+    each(case, side, material, |result| sum += u64::from(result));
     sum
 }
 
 /// Compares the results of the two sides for every case; whether all are equal.
-fn check(cases: &[Case], table: &Table) -> bool {
+fn check(cases: &[Case], material: &Material) -> bool {
     let results = |case, side| {
         let mut all = Vec::new();
-        each(case, side, table, |result| all.push(result));
+        each(case, side, material, |result| all.push(result));
         all
     };
     let passed = cases.iter().filter(|case| results(case, Side::Engine) == results(case, Side::Rust)).count();
@@ -134,14 +170,14 @@ fn opaque<T>(value: &T) -> &T {
 }
 
 /// The best time of many passes, in nanoseconds for each input; the two sides take turns.
-fn times(cases: &[Case], table: &Table) {
+fn times(cases: &[Case], material: &Material) {
     for case in cases {
-        let expected = measured_pass(case, Side::Rust, table);
+        let expected = measured_pass(case, Side::Rust, material);
         let mut best = [f64::INFINITY; 2];
         for _ in 0..60 {
             for (side, best) in [Side::Engine, Side::Rust].into_iter().zip(&mut best) {
                 let began = Instant::now();
-                let sum = measured_pass(opaque(case), side, opaque(table));
+                let sum = measured_pass(opaque(case), side, opaque(material));
                 let took = began.elapsed().as_nanos() as f64;
                 assert_eq!(sum, expected, "{}", case.name);
                 *best = best.min(took / case.inputs.len() as f64);
@@ -152,17 +188,17 @@ fn times(cases: &[Case], table: &Table) {
 }
 
 fn main() {
-    let table = Table::of_engine();
+    let material = Material { table: Table::of_engine(), records: records() };
     let cases = cases();
     let words: Vec<String> = std::env::args().skip(1).collect();
     let words: Vec<&str> = words.iter().map(String::as_str).collect();
     match words[..] {
         ["check"] => {
-            if !check(&cases, &table) {
+            if !check(&cases, &material) {
                 std::process::exit(1);
             }
         }
-        ["times"] => times(&cases, &table),
+        ["times"] => times(&cases, &material),
         ["list"] => cases.iter().for_each(|case| println!("{} {}", case.name, case.inputs.len())),
         ["pass", name, side] => {
             let case = cases.iter().find(|case| case.name == name).expect("a case's name");
@@ -171,7 +207,7 @@ fn main() {
                 "rust" => Side::Rust,
                 _ => panic!("a side is engine or rust"),
             };
-            println!("{}", measured_pass(case, side, &table));
+            println!("{}", measured_pass(case, side, &material));
         }
         _ => {
             eprintln!("usage: bench check | bench times | bench list | bench pass CASE SIDE");

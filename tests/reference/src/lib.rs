@@ -1,2 +1,3 @@
 //! The rules of the calibration in another language and by other methods than the engine's: full scans, and no arithmetic narrower than 64 bits.
 pub mod gsdf;
+pub mod record;

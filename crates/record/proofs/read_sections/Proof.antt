@@ -66,11 +66,11 @@ add-read-sweep c = omega (arith, size (c .before))
 
 -- src/lib.rt:450:9
 sub-read-sweep : tie.Need-sub-read-sweep
-sub-read-sweep c = search needs
+sub-read-sweep c = omega arith
 
 -- src/lib.rt:450:9
 part-read-sweep-start : tie.Need-part-read-sweep-start
-part-read-sweep-start c = search needs
+part-read-sweep-start c = omega arith
 
 -- src/lib.rt:450:9
 part-read-sweep-end : tie.Need-part-read-sweep-end
@@ -94,11 +94,11 @@ add-read-check c = omega (arith, size (c .before .before .before .before .before
 
 -- src/lib.rt:455:16
 sub-read-check : tie.Need-sub-read-check
-sub-read-check c = search needs
+sub-read-check c = omega arith
 
 -- src/lib.rt:455:16
 part-read-check-start : tie.Need-part-read-check-start
-part-read-check-start c = search needs
+part-read-check-start c = omega arith
 
 -- src/lib.rt:455:16
 part-read-check-end : tie.Need-part-read-check-end
@@ -114,11 +114,11 @@ read-check-requires c κs = (size (c .before .before .before .before .before .be
 
 -- src/lib.rt:457:9
 sub-judge : tie.Need-sub-judge
-sub-judge c = search needs
+sub-judge c = omega arith
 
 -- src/lib.rt:457:9
 part-judge-start : tie.Need-part-judge-start
-part-judge-start c = search needs
+part-judge-start c = omega arith
 
 -- src/lib.rt:457:9
 part-judge-end : tie.Need-part-judge-end
@@ -130,11 +130,11 @@ add-judge c = omega (arith, size (c .before .before .before .before .before .bef
 
 -- src/lib.rt:458:9
 sub-judge-2 : tie.Need-sub-judge-2
-sub-judge-2 c = search needs
+sub-judge-2 c = omega arith
 
 -- src/lib.rt:458:9
 part-judge-start-2 : tie.Need-part-judge-start-2
-part-judge-start-2 c = search needs
+part-judge-start-2 c = omega arith
 
 -- src/lib.rt:458:9
 part-judge-end-2 : tie.Need-part-judge-end-2

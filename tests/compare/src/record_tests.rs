@@ -1,0 +1,140 @@
+//! The job record, engine against reference, and both against what document 01 says where it says it outright.
+mod damaged;
+mod order;
+mod sections;
+mod values;
+
+use compare::record::{self as engine, RecordValues};
+use reference::record::{self, Record};
+
+use crate::comparison::Comparison;
+
+/// What reading gives: the number, 0 for an accepted record, and the record where the tests 2 to 4 pass.
+#[derive(Debug, PartialEq)]
+struct Answer {
+    number: u32,
+    record: Option<Record>,
+}
+
+impl Answer {
+    fn of_reference(bytes: &[u8]) -> Answer {
+        match record::read(bytes) {
+            Err(number) => Answer { number, record: None },
+            Ok(record) => Answer { number: record::judge(&record).err().unwrap_or(0), record: Some(record) },
+        }
+    }
+}
+
+/// The first place where the engine's values are not this answer; a refused record has no settings and no lux.
+fn engine_difference(got: &RecordValues, expected: &Answer) -> Option<String> {
+    let nothing = Record::default();
+    let read = expected.record.as_ref().unwrap_or(&nothing);
+    let lux: u64 = read.lamps.iter().sum();
+    let zeros = vec![0; 5];
+    let (expected_settings, expected_lux) = if expected.number == 0 { (&read.settings, lux) } else { (&zeros, 0) };
+    let settings = [got.depth, got.meter, got.class, got.reflectance, got.tolerance];
+    // A count beyond the array differs by itself, so its items need not be looked at.
+    let ddls = got.ddls.get(..got.readings).unwrap_or(&[]);
+    let luminances = got.luminances.get(..got.readings).unwrap_or(&[]);
+    let check = got.check.get(..got.patches).unwrap_or(&[]);
+    field("number", &[got.refusal], &[u64::from(expected.number)])
+        .or_else(|| field("settings", &settings, expected_settings))
+        .or_else(|| field("lux", &[got.lux], &[expected_lux]))
+        .or_else(|| field("readings", &[got.readings as u64], &[read.ddls.len() as u64]))
+        .or_else(|| field("DDLs", ddls, &read.ddls))
+        .or_else(|| field("luminances", luminances, &read.luminances))
+        .or_else(|| field("patches", &[got.patches as u64], &[read.check.len() as u64]))
+        .or_else(|| field("check", check, &read.check))
+}
+
+fn reference_difference(got: &Answer, expected: &Answer) -> Option<String> {
+    let number = field("number", &[got.number], &[u64::from(expected.number)]);
+    number.or_else(|| (got != expected).then(|| "what was read".to_string()))
+}
+
+fn field<T: Copy + Into<u64>>(name: &str, got: &[T], expected: &[u64]) -> Option<String> {
+    let got: Vec<u64> = got.iter().map(|&value| value.into()).collect();
+    if got == expected {
+        return None;
+    }
+    let place = (0..).find(|&place| got.get(place) != expected.get(place))?;
+    Some(format!("{name}, place {place}: got {:?}, expected {:?}", got.get(place), expected.get(place)))
+}
+
+/// Comparisons of records; each input counts as one, with all its values.
+struct Records(Comparison);
+
+impl Records {
+    fn new(name: &'static str) -> Records {
+        Records(Comparison::new(name))
+    }
+
+    /// The engine gives what the reference gives; returns its number.
+    fn alike(&mut self, bytes: &[u8]) -> u32 {
+        let expected = Answer::of_reference(bytes);
+        self.count(bytes, engine_difference(&engine::read(bytes), &expected));
+        expected.number
+    }
+
+    /// Both refuse it under this number, and nothing is read.
+    fn refused(&mut self, bytes: &[u8], number: u32) {
+        assert!((2..=4).contains(&number));
+        self.stated(bytes, &Answer { number, record: None });
+    }
+
+    /// Both read the record as it was written, and give this number: 0, 5, 6 or 7.
+    fn judged(&mut self, record: &Record, number: u32) {
+        assert!(number == 0 || (5..=7).contains(&number));
+        self.stated(&record.bytes(), &Answer { number, record: Some(record.clone()) });
+    }
+
+    fn stated(&mut self, bytes: &[u8], expected: &Answer) {
+        let of_engine = engine_difference(&engine::read(bytes), expected).map(|difference| format!("engine, {difference}"));
+        let of_reference =
+            reference_difference(&Answer::of_reference(bytes), expected).map(|difference| format!("reference, {difference}"));
+        self.count(bytes, of_engine.or(of_reference));
+    }
+
+    fn count(&mut self, bytes: &[u8], difference: Option<String>) {
+        let input = self.0.seen();
+        self.0.count(difference.map(|difference| format!("input {input} ({} bytes, {:?}): {difference}", bytes.len(), start(bytes))));
+    }
+
+    fn ended(self, expected: u64) -> bool {
+        self.0.ended(expected)
+    }
+}
+
+/// As many bytes as can be looked at.
+fn start(bytes: &[u8]) -> &[u8] {
+    &bytes[..bytes.len().min(64)]
+}
+
+/// The largest DDL, M.
+fn last_ddl(depth: u64) -> u64 {
+    [255, 511, 1023][depth as usize - 8]
+}
+
+/// A sound record with so many items; in each section no two are equal, so that a misplaced one shows.
+fn sound(depth: u64, lamps: u64, readings: u64, patches: u64) -> Record {
+    Record {
+        settings: vec![depth, 1, 2, 987, 654],
+        lamps: (0..lamps).map(|i| 2000 - 259 * i).collect(),
+        ddls: (0..readings).map(|i| last_ddl(depth) * i / (readings - 1)).collect(),
+        luminances: (0..readings).map(|i| 66_051 + 4_000_037 * i).collect(),
+        check: (0..patches).map(|i| 4_294_967_295 - 235_000_001 * i).collect(),
+    }
+}
+
+/// Sound records of 30 bytes, the fewest, to 6,250, the most.
+fn sound_records() -> [Record; 6] {
+    [sound(8, 0, 2, 0), sound(8, 8, 2, 0), sound(10, 3, 5, 18), sound(9, 8, 37, 18), sound(8, 0, 256, 0), sound(10, 8, 1024, 18)]
+}
+
+pub fn results() -> Vec<bool> {
+    let mut results = sections::results();
+    results.extend(values::results());
+    results.extend(order::results());
+    results.push(damaged::damaged_records());
+    results
+}
