@@ -1,29 +1,27 @@
 -- What an accepted record promises to the layers above.
 -- Assumes nothing.
-use Prim.Native.Nat.{ℕ, zero, suc, _+_, _*_, _≤_}
-use mathlib.Core.Path.{_≡_, refl, sym, ap, _∙_}
+use Prim.Native.Nat.{ℕ, _*_, _≤_}
+use mathlib.Core.Path.{_≡_, refl}
 use mathlib.Core.List.{List, [], _∷_}
-use mathlib.Core.Bool.{Bool, true, false, _&&_}
+use mathlib.Core.Bool.{_&&_}
 use lib.ListN.{length, getD}
-use lib.Dec.{T, leb}
+use lib.Dec.{T}
 use native.Mathlib.Omega.{arith}
-use native.Mathlib.Nat.{suc-mul, mul-le-mul}
+use native.Mathlib.Nat.{suc-mul}
 use mir.Facts.{and-yes}
 use Rattle.laws.proofs.Cases.{by, yes-is}
-use Rattle.record.specs.Bytes.{fields}
-use Rattle.record.specs.Sections.{permitted, Sections, lists, unread, sections, layoutOf, ddlsOf, luminancesOf, checkOf}
-use Rattle.record.specs.Tests.{within, settingsInRange, allUpTo, lampsInRange, spans, maxDdl, neverFalls, settingsOf, sum, jobOf, judged, judgedOf, answerOf}
+use Rattle.record.specs.Sections.{permitted, lists, sections, layoutOf}
+use Rattle.record.specs.Tests.{settingsInRange, allUpTo, lampsInRange, spans, maxDdl, neverFalls, settingsOf, sum, jobOf, judged, answerOf}
 use Rattle.record.specs.Accepted.{AcceptedJob}
 use Rattle.record.specs.declared.Section.the-variants.{Sweep, Check}
 use Rattle.record.specs.declared.Layout.{Layout}
 use Rattle.record.specs.declared.Layout.the-variants.{Complete, Broken}
 use Rattle.record.specs.declared.Refusal.{Refusal}
 use Rattle.record.specs.declared.Job.{Job}
-use Rattle.record.specs.declared.Answer.{Answer}
 use Rattle.record.specs.declared.Answer.the-variants.{Accepted, Refused}
-use Rattle.record.proofs.Judged.{Ranges, ranges}
+use Rattle.record.proofs.Judged.{ranges}
 use Rattle.record.proofs.Fields.{fields-length}
-use Rattle.record.proofs.Placed.{Placed, placed, Sizes, sizes}
+use Rattle.record.proofs.Placed.{placed, sizes}
 use Rattle.record.proofs.Reading.{lists-of}
 use Rattle.record.proofs.Written.{up-to-first, up-to-rest}
 

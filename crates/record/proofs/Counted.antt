@@ -1,7 +1,7 @@
 -- What reading one section finds.
 -- Assumes nothing.
 use Prim.Native.Nat.{ℕ, _+_, _*_, _≤_, _<_}
-use mathlib.Core.Path.{_≡_, refl, sym}
+use mathlib.Core.Path.{_≡_, sym}
 use mathlib.Core.List.{List}
 use mathlib.Core.Bool.{true, false, false≢true}
 use lib.ListN.{length, drop, length-drop}

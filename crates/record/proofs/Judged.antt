@@ -1,10 +1,10 @@
 -- Tests 5 to 7, from what the code finds of each.
 -- Assumes nothing.
-use Prim.Native.Nat.{ℕ, _+_, _-_, _≤_}
+use Prim.Native.Nat.{ℕ, _-_, _≤_}
 use mathlib.Core.Path.{_≡_, refl, sym, ap, _∙_}
 use mathlib.Core.List.{List, [], _∷_}
 use mathlib.Core.Bool.{Bool, true, false, _&&_}
-use lib.ListN.{length, take, drop, getD}
+use lib.ListN.{length, take, getD}
 use lib.Seq.{drop-drop, getD-take, length-take-le}
 use lib.Dec.{T, eqb, leb}
 use native.Mathlib.Omega.{arith}
@@ -12,7 +12,7 @@ use mir.Facts.{and-yes, leb-yes}
 use Rattle.laws.proofs.Cases.{yes-is}
 use Rattle.laws.specs.Rises.{risesBy}
 use Rattle.record.specs.Bytes.{word, fields}
-use Rattle.record.specs.Tests.{within, meterOf, classOf, settingsInRange, settingsOf, lampsInRange, spans, neverFalls, maxDdl, sum, jobOf, judged}
+use Rattle.record.specs.Tests.{within, meterOf, classOf, settingsInRange, settingsOf, lampsInRange, spans, neverFalls, maxDdl, sum, judged}
 use Rattle.units.specs.declared.Lux.{Lux}
 use Rattle.record.specs.declared.Meter.{Meter}
 use Rattle.record.specs.declared.Class.{Class}

@@ -1,22 +1,21 @@
 -- The shortest accepted record has 30 bytes, the longest 6,250.
 -- Assumes nothing.
-use Prim.Native.Nat.{ℕ, zero, suc, _+_, _*_, _≤_}
-use mathlib.Core.Path.{_≡_, refl, sym, ap, _∙_}
-use mathlib.Core.List.{List, [], _∷_, _++_}
+use Prim.Native.Nat.{ℕ, zero, suc, _≤_}
+use mathlib.Core.Path.{_≡_, refl}
+use mathlib.Core.List.{List, [], _∷_}
 use lib.ListN.{length, replicate}
-use lib.Dec.{T}
 use native.Mathlib.Omega.{arith}
 use Rattle.laws.specs.Rises.{risesFrom, risesBy}
 use Rattle.record.specs.Bytes.{fields}
 use Rattle.record.specs.Sections.{countOf, layoutOf, sections}
-use Rattle.record.specs.Tests.{settingsInRange, allUpTo, sum, settingsOf, judged, jobOf, answerOf}
+use Rattle.record.specs.Tests.{settingsInRange, allUpTo, judged, jobOf, answerOf}
 use Rattle.record.specs.Written.{run, runSweep, written, Writable}
 use Rattle.record.specs.Lengths.{AcceptedOf, AcceptedLengths}
 use Rattle.record.specs.declared.Layout.{Layout}
 use Rattle.record.specs.declared.Layout.the-variants.{Complete, Broken}
 use Rattle.record.specs.declared.Job.{Job}
 use Rattle.record.specs.declared.Answer.the-variants.{Accepted, Refused}
-use Rattle.record.proofs.Placed.{Sizes, sizes}
+use Rattle.record.proofs.Placed.{sizes}
 use Rattle.record.proofs.RoundTrip.{round-trip}
 
 module _ (s : List ℕ) (job : Job) (h : answerOf s ≡ Accepted job) where

@@ -1,11 +1,11 @@
 -- Exactly one outcome: every list of bytes has one, and each has the answer that the reader gives.
 -- Assumes nothing.
-use Prim.Native.Nat.{ℕ, _+_, _*_, _≤_, _<_}
+use Prim.Native.Nat.{ℕ, _+_, _*_, _≤_}
 use mathlib.Core.Path.{_≡_, refl, sym, ap, _∙_}
 use mathlib.Core.List.{List, [], _∷_, _++_}
-use mathlib.Core.Bool.{Bool, true, false, not, _&&_}
+use mathlib.Core.Bool.{_&&_}
 use mathlib.Core.Logic.{_⊎_, inl, inr, ⊎-elim}
-use lib.ListN.{length, getD, take, drop, length-append, take-append-drop, length-drop}
+use lib.ListN.{length, getD, drop, take-append-drop, length-drop}
 use lib.Seq.{drop-drop, length-take-le}
 use lib.Dec.{T}
 use native.Mathlib.Omega.{arith}
@@ -14,18 +14,18 @@ use Rattle.laws.proofs.Cases.{by, le-or-lt, is-yes, is-no, yes-is, no-is}
 use Rattle.record.specs.Bytes.{word, long, fields, bytes16, bytes32}
 use Rattle.record.specs.Sections.{permitted, width, countOf, items, rest, layoutOf, lists, unread, sections}
 use Rattle.record.specs.Tests.{allUpTo, settingsInRange, lampsInRange, spans, maxDdl, neverFalls, judged, answerOf}
-use Rattle.record.specs.Written.{run, runSweep, section, written, Writable}
+use Rattle.record.specs.Written.{section, written}
 use Rattle.record.specs.Outcome.{Whole, Reached, to-settings, to-lamps, to-sweep, to-check, EndsIn, count-cut, items-cut, Barred, Holds, Outcome, too-short, not-permitted, trailing, out-of-range, not-rising, falls, passes, answerFor}
 use Rattle.record.specs.declared.Section.{Section}
 use Rattle.record.specs.declared.Section.the-variants.{Settings, Lamps, Sweep, Check}
-use Rattle.record.specs.declared.SectionCount.the-variants.{Items, Fault}
+use Rattle.record.specs.declared.SectionCount.the-variants.{Fault}
 use Rattle.record.specs.declared.Refusal.{Refusal}
 use Rattle.record.specs.declared.Refusal.the-variants.{RecordTooShort, CountNotPermitted, TrailingBytes}
 use Rattle.record.specs.declared.Layout.the-variants.{Broken}
 use Rattle.record.specs.declared.Answer.the-variants.{Refused}
 use Rattle.record.proofs.Fields.{fields-length}
 use Rattle.record.proofs.Counted.{count-none, count-short, count-barred, up-to-1024}
-use Rattle.record.proofs.Written.{word-back, word-fits, long-fits, fields-fit, up-to-drop, up-to-take, word-front-again, long-front-again, ItemBytes, run-again, run-sweep-again}
+use Rattle.record.proofs.Written.{word-back, word-fits, long-fits, fields-fit, up-to-drop, up-to-take, word-front-again, long-front-again, run-again, run-sweep-again}
 use Rattle.record.proofs.RoundTrip.{AtLamps, AtSweep, AtCheck, past-settings, past-lamps, past-sweep, past-check, round-trip}
 
 -- ---- the answer of each outcome

@@ -1,24 +1,22 @@
 -- From the sections' readers to what the record's reader promises.
 -- Assumes nothing.
-use Prim.Native.Nat.{ℕ, _+_, _-_, _*_, _≤_}
+use Prim.Native.Nat.{ℕ, _+_, _-_, _*_}
 use mathlib.Core.Path.{_≡_, refl, sym, ap, _∙_}
 use mathlib.Core.List.{List, _++_}
 use lib.ListN.{length, take, drop}
 use lib.Seq.{take-at}
 use native.Mathlib.Omega.{arith}
 use Rattle.record.specs.Bytes.{word, long, fields}
-use Rattle.record.specs.Sections.{Sections, lists, unread, items, rest, layoutOf, listsAt, sections}
+use Rattle.record.specs.Sections.{lists, items, rest, layoutOf, sections}
 use Rattle.record.specs.Tests.{judged, answerOf}
 use Rattle.record.specs.Reader.{Judgeable, ReadFrom}
 use Rattle.record.specs.declared.Section.the-variants.{Settings, Lamps, Sweep, Check}
-use Rattle.record.specs.declared.Layout.{Layout}
 use Rattle.record.specs.declared.Layout.the-variants.{Complete, Broken}
 use Rattle.record.specs.declared.Refusal.{Refusal}
 use Rattle.record.specs.declared.Answer.{Answer}
 use Rattle.record.specs.declared.Answer.the-variants.{Refused}
-use Rattle.record.specs.declared.JobRecord.{JobRecord}
 use Rattle.record.proofs.Fields.{fields-length}
-use Rattle.record.proofs.Placed.{Sizes, sizes, part-is, part-length, at-sweep, at-check}
+use Rattle.record.proofs.Placed.{sizes, part-is, part-length, at-sweep, at-check}
 
 -- where a section starts
 abbrev atLamps : ℕ → ℕ

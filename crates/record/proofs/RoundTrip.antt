@@ -1,26 +1,21 @@
 -- The record written from five lists is read back as those lists, and a complete record is the written form of the lists that are read from it.
 -- Assumes nothing.
-use Prim.Native.Nat.{ℕ, _+_, _-_, _*_, _≤_, _<_}
+use Prim.Native.Nat.{ℕ, _+_, _-_, _*_, _≤_}
 use mathlib.Core.Path.{_≡_, refl, sym, ap, _∙_}
-use mathlib.Core.List.{List, [], _∷_, _++_}
-use mathlib.Core.Bool.{true, false, not}
-use lib.ListN.{length, take, drop, length-append, take-append-drop, length-drop}
-use lib.Seq.{take-at, drop-at, drop-drop, length-take-le}
-use lib.Dec.{T}
+use mathlib.Core.List.{List, []}
+use lib.ListN.{length, length-append}
+use lib.Seq.{take-at, drop-at, drop-drop}
 use native.Mathlib.Omega.{arith}
-use borrow.Author.Tests.{lt-ltb, le-ltb}
-use Rattle.laws.proofs.Cases.{is-yes, is-no}
+use Rattle.laws.proofs.Cases.{is-yes}
 use Rattle.record.specs.Bytes.{word, long, fields, bytes16, bytes32}
-use Rattle.record.specs.Sections.{permitted, width, countOf, items, rest, after, ended, layoutOf, Sections, lists, listsAt, sections}
-use Rattle.record.specs.Tests.{allUpTo}
+use Rattle.record.specs.Sections.{permitted, width, countOf, items, rest, after, ended, layoutOf, lists, sections}
 use Rattle.record.specs.Written.{run, runSweep, section, written, Writable}
 use Rattle.record.specs.Outcome.{Whole}
 use Rattle.record.specs.declared.Section.{Section}
 use Rattle.record.specs.declared.Section.the-variants.{Settings, Lamps, Sweep, Check}
 use Rattle.record.specs.declared.SectionCount.the-variants.{Items}
 use Rattle.record.specs.declared.Layout.{Layout}
-use Rattle.record.specs.declared.Layout.the-variants.{Complete, Broken}
-use Rattle.record.specs.declared.Refusal.the-variants.{TrailingBytes}
+use Rattle.record.specs.declared.Layout.the-variants.{Complete}
 use Rattle.record.proofs.Counted.{count-items, up-to-1024}
 use Rattle.record.proofs.Placed.{fromLamps, fromSweep, fromCheck}
 use Rattle.record.proofs.Written.{word-back, words-back, longs-back, ddls-back, luminances-back, run16-length, run32-length, run-sweep-length}

@@ -403,7 +403,7 @@ fn ddls_span(ddls: &[u16], n: usize, top: Ddl) -> bool
 
 // ---- the record
 
-// Tests 5, 6 and 7 in their order.
+// Tests 5, 6 and 7 in their order, of the items of the settings and of `number` lamps, and of n readings.
 fn judge(
     settings: &[u8],
     lamps: &[u8],
@@ -435,7 +435,7 @@ fn judge(
     })
 }
 
-// A record whose sections are complete: each section's items go to its own reader.
+// A record whose sections are complete, of a settings, b lamps, c readings and d check readings: each section's items go to its own reader.
 fn read_sections(bytes: &[u8], a: usize, b: usize, c: usize, d: usize) -> JobRecord
     requires { ⌜ layoutOf (now bytes) ≡ Layout.Complete a b c d ⌝ }
     ensures { λ r. ⌜ ReadFrom (now (bytes .entry)) r ⌝ }

@@ -2,7 +2,7 @@
 -- Assumes nothing.
 use Prim.Native.Nat.{ℕ}
 use mathlib.Core.List.{List}
-use mathlib.Core.Path.{_≡_, refl, ap, _∙_}
+use mathlib.Core.Path.{_≡_, ap, _∙_}
 use Rattle.record.specs.Refusals.{refusalNumber}
 use Rattle.record.specs.Reader.{ReadFrom}
 use Rattle.record.specs.declared.Refusal.{Refusal}

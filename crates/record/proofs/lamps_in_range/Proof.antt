@@ -1,8 +1,8 @@
 use Rattle.record.proofs.Scans.{UpToSoFar, up-to-none, up-to-more, up-to-not, up-to-end}
 use Rattle.record.proofs.Fields.{word-more, fields-done}
-use Rattle.record.specs.Bytes.{fields, word, long}
+use Rattle.record.specs.Bytes.{fields, word}
 use native.Mathlib.Omega.{arith}
-use Prim.Native.Nat.{ℕ, _+_, _*_, _-_, _≤_}
+use Prim.Native.Nat.{_-_, _≤_}
 use Rattle.record.proofs.lamps_in_range.Statement.{statement}
 use Rattle.record.proofs.lamps_in_range.Tie as tie
 use Rattle.record.proofs.lamps_in_range.Reads as reads

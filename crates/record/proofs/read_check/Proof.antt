@@ -1,9 +1,9 @@
-use mathlib.Core.Path.{sym, ap, _∙_}
+use mathlib.Core.Path.{_∙_}
 use Rattle.laws.proofs.Fill.{Copied, copied-none, copied-more, copied-all, copied-length}
 use Rattle.record.proofs.Fields.{fields-length, long-first}
-use Rattle.record.specs.Bytes.{fields, word, long}
+use Rattle.record.specs.Bytes.{fields, long}
 use native.Mathlib.Omega.{arith}
-use Prim.Native.Nat.{ℕ, _+_, _*_, _-_, _≤_}
+use Prim.Native.Nat.{_-_, _≤_}
 use Rattle.record.proofs.read_check.Statement.{statement}
 use Rattle.record.proofs.read_check.Tie as tie
 use Rattle.record.proofs.read_check.Reads as reads

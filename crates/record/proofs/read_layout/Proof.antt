@@ -6,7 +6,7 @@ use denote.Ref.{now}
 use native.Mathlib.Omega.{arith}
 use lib.ListN.{drop}
 use mathlib.Core.Path.{_≡_, sym, _∙_}
-use Prim.Native.Nat.{ℕ, _+_, _*_}
+use Prim.Native.Nat.{_+_, _*_}
 use borrow.Author.Needs.{needs}
 use Rattle.record.proofs.read_layout.Statement.{statement}
 use Rattle.record.proofs.read_layout.Tie as tie

@@ -3,7 +3,7 @@ use Rattle.record.proofs.Placed.{Sizes, sizes, part-length}
 use denote.Ref.{now}
 use native.Mathlib.Omega.{arith}
 use mathlib.Core.Path.{refl, _∙_}
-use Prim.Native.Nat.{ℕ, _+_, _*_}
+use Prim.Native.Nat.{_+_, _*_}
 use borrow.Author.Needs.{needs}
 use Rattle.record.proofs.read_sections.Statement.{statement}
 use Rattle.record.proofs.read_sections.Tie as tie

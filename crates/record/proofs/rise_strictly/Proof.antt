@@ -3,7 +3,7 @@ use Rattle.laws.proofs.Lists.{next-of, none-after}
 use Rattle.laws.proofs.Rises.{RisesSoFar, rises-first, rises-more, rises-not, rises-end}
 use lib.ListN.{take}
 use native.Mathlib.Omega.{arith}
-use Prim.Native.Nat.{ℕ, _+_, _*_, _-_, _≤_}
+use Prim.Native.Nat.{_-_, _≤_}
 use Rattle.record.proofs.rise_strictly.Statement.{statement}
 use Rattle.record.proofs.rise_strictly.Tie as tie
 use Rattle.record.proofs.rise_strictly.Reads as reads
