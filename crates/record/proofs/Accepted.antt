@@ -4,14 +4,15 @@ use Prim.Native.Nat.{ℕ, _*_, _≤_}
 use mathlib.Core.Path.{_≡_, refl}
 use mathlib.Core.List.{List, [], _∷_}
 use mathlib.Core.Bool.{_&&_}
+use mathlib.Core.Logic.{⊎-elim}
 use lib.ListN.{length, getD}
 use lib.Dec.{T}
 use native.Mathlib.Omega.{arith}
 use native.Mathlib.Nat.{suc-mul}
 use mir.Facts.{and-yes}
-use Rattle.laws.proofs.Cases.{by, yes-is}
+use Rattle.laws.proofs.Cases.{by, yes-is, le-or-lt}
 use Rattle.record.specs.Sections.{permitted, lists, sections, layoutOf}
-use Rattle.record.specs.Tests.{settingsInRange, allUpTo, lampsInRange, spans, maxDdl, neverFalls, settingsOf, sum, jobOf, judged, answerOf}
+use Rattle.record.specs.Tests.{meterOf, classOf, meterNumber, classNumber, settingsInRange, allUpTo, lampsInRange, spans, maxDdl, neverFalls, settingsOf, sum, jobOf, judged, answerOf}
 use Rattle.record.specs.Accepted.{AcceptedJob}
 use Rattle.record.specs.declared.Section.the-variants.{Sweep, Check}
 use Rattle.record.specs.declared.Layout.{Layout}
@@ -23,7 +24,7 @@ use Rattle.record.proofs.Judged.{ranges}
 use Rattle.record.proofs.Fields.{fields-length}
 use Rattle.record.proofs.Placed.{placed, sizes}
 use Rattle.record.proofs.Reading.{lists-of}
-use Rattle.record.proofs.Written.{up-to-first, up-to-rest}
+use Rattle.record.proofs.Scans.{up-to-first, up-to-rest}
 
 never : {r : Refusal} {job : Job} → Refused r ≡ Accepted job → ⊥
 never e = let z : _≡_ {A = ℕ} 0 1 = cc in omega arith
@@ -56,6 +57,15 @@ unfolding sum
 sum-up-to m [] t = omega arith
 sum-up-to m (x ∷ xs) t = omega (arith, up-to-first m x xs t, sum-up-to m xs (up-to-rest m x xs t), suc-mul (length xs) m)
 
+-- numbers that are permitted come back from their cases
+meter-back : (n : ℕ) → n ≤ 1 → meterNumber (meterOf n) ≡ n
+meter-back n h =
+    ⊎-elim (λ z. let e : n ≡ 0 = omega arith in rw e) (λ p. let e : n ≡ 1 = omega arith in rw e) (le-or-lt n 0)
+
+class-back : (n : ℕ) → 1 ≤ n → n ≤ 2 → classNumber (classOf n) ≡ n
+class-back n l h =
+    ⊎-elim (λ z. let e : n ≡ 1 = omega arith in rw e) (λ p. let e : n ≡ 2 = omega arith in rw e) (le-or-lt n 1)
+
 -- the record's lists, tested
 module _ (s : List ℕ) (job : Job) (h : answerOf s ≡ Accepted job) where
   from-lists : (st la dd lu ch : List ℕ) → sections s ≡ lists st la dd lu ch → length la ≤ 8 → T (permitted Sweep (length dd)) → length lu ≡ length dd → T (permitted Check (length ch)) → AcceptedJob s job
@@ -65,11 +75,15 @@ module _ (s : List ℕ) (job : Job) (h : answerOf s ≡ Accepted job) where
       let r = ranges st (p .settings) in
       rw (p .is)
       (record {
+        settings = rw e;
+        meter = rw e (meter-back (getD st 1 0) (r .meter));
+        class = rw e (class-back (getD st 2 0) (r .class-low) (r .class-high));
+        lux = rw e;
         depth-low = r .depth-low;
         depth-high = r .depth-high;
         reflectance = r .reflectance;
         tolerance = r .tolerance;
-        lamps = omega (arith, sum-up-to 2000 la (p .lamps));
+        lux-high = omega (arith, sum-up-to 2000 la (p .lamps));
         readings = rw e m;
         pairs = rw e n;
         patches = rw e o;

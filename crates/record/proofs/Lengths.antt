@@ -33,7 +33,7 @@ unfolding answerOf sections layoutOf countOf judged settingsInRange allUpTo rise
 shortest = record {
   s = 5 ∷ 0 ∷ 8 ∷ 0 ∷ 0 ∷ 0 ∷ 1 ∷ 0 ∷ 0 ∷ 0 ∷ 0 ∷ 0 ∷ 0 ∷ 0 ∷ 2 ∷ 0 ∷ 0 ∷ 0 ∷ 0 ∷ 0 ∷ 0 ∷ 0 ∷ 255 ∷ 0 ∷ 0 ∷ 0 ∷ 0 ∷ 0 ∷ 0 ∷ 0 ∷ [];
   bytes = tt;
-  long = refl;
+  size = refl;
   job = jobOf (8 ∷ 0 ∷ 1 ∷ 0 ∷ 0 ∷ []) [];
   accepted = refl;
 }
@@ -66,7 +66,7 @@ longest =
     record {
       s = written settings lamps ddls luminances check;
       bytes = tt;
-      long = refl;
+      size = refl;
       job = jobOf settings lamps;
       accepted = rw (round-trip settings lamps ddls luminances check w);
     }

@@ -15,14 +15,15 @@ use Rattle.record.specs.Bytes.{word, long, fields, bytes16, bytes32}
 use Rattle.record.specs.Sections.{permitted, width, countOf, items, rest, layoutOf, lists, unread, sections}
 use Rattle.record.specs.Tests.{allUpTo, settingsInRange, lampsInRange, spans, maxDdl, neverFalls, judged, answerOf}
 use Rattle.record.specs.Written.{section, written}
-use Rattle.record.specs.Outcome.{Whole, Reached, to-settings, to-lamps, to-sweep, to-check, EndsIn, count-cut, items-cut, Barred, Holds, Outcome, too-short, not-permitted, trailing, out-of-range, not-rising, falls, passes, answerFor}
+use Rattle.record.specs.Outcome.{Whole, Reached, to-settings, to-lamps, to-sweep, to-check, EndsIn, count-cut, items-cut, Barred, Holds, Outcome, too-short, not-permitted, trailing, out-of-range, not-spanning, falls, passes, answerFor, Under, WrittenJob}
 use Rattle.record.specs.declared.Section.{Section}
 use Rattle.record.specs.declared.Section.the-variants.{Settings, Lamps, Sweep, Check}
 use Rattle.record.specs.declared.SectionCount.the-variants.{Fault}
 use Rattle.record.specs.declared.Refusal.{Refusal}
 use Rattle.record.specs.declared.Refusal.the-variants.{RecordTooShort, CountNotPermitted, TrailingBytes}
 use Rattle.record.specs.declared.Layout.the-variants.{Broken}
-use Rattle.record.specs.declared.Answer.the-variants.{Refused}
+use Rattle.record.specs.declared.Job.{Job}
+use Rattle.record.specs.declared.Answer.the-variants.{Accepted, Refused}
 use Rattle.record.proofs.Fields.{fields-length}
 use Rattle.record.proofs.Counted.{count-none, count-short, count-barred, up-to-1024}
 use Rattle.record.proofs.Written.{word-back, word-fits, long-fits, fields-fit, up-to-drop, up-to-take, word-front-again, long-front-again, run-again, run-sweep-again}
@@ -77,7 +78,7 @@ decides {s} (too-short r e) = broken-answer s (stops r (ends-count e))
 decides {s} (not-permitted r b) = broken-answer s (stops r (barred-count b))
 decides {s} (trailing r w) = broken-answer s (goes-past r w)
 decides (out-of-range {st = st} {la = la} h a) = held-answer h ∙ rw (is-no (settingsInRange st && lampsInRange la) a)
-decides (not-rising {st = st} {la = la} {dd = dd} h a b) = held-answer h ∙ rw (is-yes (settingsInRange st && lampsInRange la) a, is-no (spans (maxDdl (getD st 0 0)) dd) b)
+decides (not-spanning {st = st} {la = la} {dd = dd} h a b) = held-answer h ∙ rw (is-yes (settingsInRange st && lampsInRange la) a, is-no (spans (maxDdl (getD st 0 0)) dd) b)
 decides (falls {st = st} {la = la} {dd = dd} {lu = lu} h a b c) = held-answer h ∙ rw (is-yes (settingsInRange st && lampsInRange la) a, is-yes (spans (maxDdl (getD st 0 0)) dd) b, is-no (neverFalls lu) c)
 decides (passes {st = st} {la = la} {dd = dd} {lu = lu} h a b c) = held-answer h ∙ rw (is-yes (settingsInRange st && lampsInRange la) a, is-yes (spans (maxDdl (getD st 0 0)) dd) b, is-yes (neverFalls lu) c)
 
@@ -164,7 +165,7 @@ held-outcome {st = st} {la = la} {dd = dd} {lu = lu} h =
     (λ b. by (neverFalls lu)
     (λ c. passes h (yes-is a) (yes-is b) (yes-is c))
     (λ c. falls h (yes-is a) (yes-is b) (no-is c)))
-    (λ b. not-rising h (yes-is a) (no-is b)))
+    (λ b. not-spanning h (yes-is a) (no-is b)))
     (λ a. out-of-range h (no-is a))
 
 -- the last section is there; the record ends with it, or goes on
@@ -223,9 +224,39 @@ module _ (s st la dd lu ch : List ℕ) (e : sections s ≡ lists st la dd lu ch)
   held (not-permitted r x) = absurd (not-broken (stops r (barred-count x)))
   held (trailing r w) = absurd (not-broken (goes-past r w))
   held (out-of-range h a) = same-lists h
-  held (not-rising h a b) = same-lists h
+  held (not-spanning h a b) = same-lists h
   held (falls h a b c) = same-lists h
   held (passes h a b c) = same-lists h
 
   pub lists-written : T (allUpTo 255 s) → Holds s st la dd lu ch
   lists-written b = held (some-outcome s b)
+
+-- ---- what the reader's answer says of the bytes
+
+-- whatever the answer, its condition holds
+pub only-under : (s : List ℕ) → T (allUpTo 255 s) → Under s (answerOf s)
+only-under s b = record { outcome = some-outcome s b; is = sym (decides (some-outcome s b)) }
+
+refused-accepted : {r : Refusal} {job : Job} → Refused r ≡ Accepted job → ⊥
+refused-accepted e = let z : _≡_ {A = ℕ} 0 1 = cc in omega arith
+
+-- an accepted record is the written form of its lists
+pub accepted-written : (s : List ℕ) (job : Job) → T (allUpTo 255 s) → answerOf s ≡ Accepted job → WrittenJob s job
+accepted-written s job b e = from (some-outcome s b) (sym (decides (some-outcome s b)) ∙ e)
+  where
+    from : (o : Outcome s) → answerFor o ≡ Accepted job → WrittenJob s job
+    from (too-short r x) f = absurd (refused-accepted f)
+    from (not-permitted r x) f = absurd (refused-accepted f)
+    from (trailing r w) f = absurd (refused-accepted f)
+    from (out-of-range h a) f = absurd (refused-accepted f)
+    from (not-spanning h a c) f = absurd (refused-accepted f)
+    from (falls h a c d) f = absurd (refused-accepted f)
+    from (passes {st = st} {la = la} {dd = dd} {lu = lu} {ch = ch} h a c d) f = record {
+      settings = st;
+      lamps = la;
+      ddls = dd;
+      luminances = lu;
+      check = ch;
+      holds = h;
+      is = cc f;
+    }

@@ -4,7 +4,7 @@ use Prim.Native.Nat.{ℕ, _+_, _-_, _*_}
 use mathlib.Core.Path.{_≡_, refl, sym, ap, _∙_}
 use mathlib.Core.List.{List, _++_}
 use lib.ListN.{length, take, drop}
-use lib.Seq.{take-at}
+use lib.Seq.{take-at, take-all}
 use native.Mathlib.Omega.{arith}
 use Rattle.record.specs.Bytes.{word, long, fields}
 use Rattle.record.specs.Sections.{lists, items, rest, layoutOf, sections}
@@ -35,6 +35,10 @@ atEnd a b c d = atCheck a b c + (2 + d * 4)
 abbrev part : List ℕ → ℕ → ℕ → List ℕ
 part s from end = take (end - from) (drop from s)
 
+-- the fields that stand at the front of an array
+front : (w : ℕ) (f : List ℕ → ℕ) (n : ℕ) (bs zs : List ℕ) → take n (fields w f n bs ++ zs) ≡ fields w f n bs
+front w f n bs zs = take-at (fields w f n bs) zs n (fields-length w f n bs)
+
 module _ (s : List ℕ) (a b c d : ℕ) (l : layoutOf s ≡ Complete a b c d) where
   -- the five lists, from those parts
   pub lists-of : sections s ≡ lists
@@ -52,45 +56,57 @@ module _ (s : List ℕ) (a b c d : ℕ) (l : layoutOf s ≡ Complete a b c d) wh
       let e₃ : part s (atCheck a b c + 2) (atEnd a b c d) ≡ items Check d (rest Sweep c (rest Lamps b (rest Settings a s))) = part-is Check s (atCheck a b c) d (atEnd a b c d) refl ∙ ap (items Check d) (sym (at-check s a b c)) in
       rw (l, e₀, e₁, e₂, e₃, z .settings)
 
-  pub judgeable : (ds ls : List ℕ) → length ds ≡ 1024 → length ls ≡ 1024 → Judgeable (part s 2 (atLamps a)) (part s (atLamps a + 2) (atSweep a b)) b ds ls c
-  judgeable ds ls m n =
+  pub judgeable : (st la ds ls : List ℕ) → length st ≡ 5 → length la ≡ 8 → length ds ≡ 1024 → length ls ≡ 1024 → Judgeable st la b ds ls c
+  judgeable st la ds ls h k m n =
       let z = sizes s a b c d l in
       record {
-        five-settings = part-length s 2 (atLamps a) (omega arith) (omega arith) ∙ omega arith;
-        up-to-8-lamps = z .lamps;
-        lamps-length = part-length s (atLamps a + 2) (atSweep a b) (omega arith) (omega arith) ∙ omega arith;
+        five = h;
+        up-to-8 = z .lamps;
+        lamps-fit = omega arith;
         some-readings = omega arith;
-        ddls-length = omega arith;
-        luminances-length = omega arith;
+        ddls-fit = omega arith;
+        luminances-fit = omega arith;
       }
 
-  pub read-whole : {r : Answer} {ds ls ch : List ℕ} (zs₀ zs₁ zs₂ : List ℕ)
-      → r ≡ judged (fields 2 (word 0) 5 (part s 2 (atLamps a))) (fields 2 (word 0) b (part s (atLamps a + 2) (atSweep a b))) (take c ds) (take c ls)
-      → ds ≡ fields 6 (word 0) c (part s (atSweep a b + 2) (atCheck a b c)) ++ zs₀
-      → ls ≡ fields 6 (long 2) c (part s (atSweep a b + 2) (atCheck a b c)) ++ zs₁
-      → ch ≡ fields 4 (long 0) d (part s (atCheck a b c + 2) (atEnd a b c d)) ++ zs₂
-      → ReadFrom s (record { answer = r; readings = c; ddls = ds; luminances = ls; patches = d; check = ch })
+  pub read-whole : {r : Answer} {st la ds ls ch : List ℕ} (zs₀ zs₁ zs₂ zs₃ : List ℕ)
+      → r ≡ judged st (take b la) (take c ds) (take c ls)
+      → st ≡ fields 2 (word 0) 5 (part s 2 (atLamps a))
+      → la ≡ fields 2 (word 0) b (part s (atLamps a + 2) (atSweep a b)) ++ zs₀
+      → ds ≡ fields 6 (word 0) c (part s (atSweep a b + 2) (atCheck a b c)) ++ zs₁
+      → ls ≡ fields 6 (long 2) c (part s (atSweep a b + 2) (atCheck a b c)) ++ zs₂
+      → ch ≡ fields 4 (long 0) d (part s (atCheck a b c + 2) (atEnd a b c d)) ++ zs₃
+      → ReadFrom s (record { answer = r; given = a; settings = st; sources = b; lamps = la; readings = c; ddls = ds; luminances = ls; patches = d; check = ch })
   unfolding answerOf
-  read-whole zs₀ zs₁ zs₂ e f g h =
-      let sweep = part s (atSweep a b + 2) (atCheck a b c) in
-      let check = part s (atCheck a b c + 2) (atEnd a b c d) in
-      let ds = ap (take c) f ∙ take-at (fields 6 (word 0) c sweep) zs₀ c (fields-length 6 (word 0) c sweep) in
-      let ls = ap (take c) g ∙ take-at (fields 6 (long 2) c sweep) zs₁ c (fields-length 6 (long 2) c sweep) in
+  read-whole {st = settings} zs₀ zs₁ zs₂ zs₃ e st′ la′ ds′ ls′ ch′ =
+      let five = (sizes s a b c d l) .settings in
+      let st = ap (take 5) st′ ∙ take-all 5 (fields 2 (word 0) 5 (part s 2 (atLamps a))) (rw fields-length (omega arith)) in
+      let la = ap (take b) la′ ∙ front 2 (word 0) b (part s (atLamps a + 2) (atSweep a b)) zs₀ in
+      let ds = ap (take c) ds′ ∙ front 6 (word 0) c (part s (atSweep a b + 2) (atCheck a b c)) zs₁ in
+      let ls = ap (take c) ls′ ∙ front 6 (long 2) c (part s (atSweep a b + 2) (atCheck a b c)) zs₂ in
+      let ch = ap (take d) ch′ ∙ front 4 (long 0) d (part s (atCheck a b c + 2) (atEnd a b c d)) zs₃ in
       record {
-        answer = e ∙ rw (ds, ls, lists-of);
+        answer = e ∙ rw (st′, la, ds, ls, lists-of);
+        given = rw (lists-of, fields-length) five;
+        settings = rw lists-of (ap (λ (k : ℕ). take k settings) five ∙ st);
+        sources = rw (lists-of, fields-length);
+        lamps = rw lists-of la;
         readings = rw (lists-of, fields-length);
         ddls = rw lists-of ds;
         luminances = rw lists-of ls;
         patches = rw (lists-of, fields-length);
-        check = rw lists-of (ap (take d) h ∙ take-at (fields 4 (long 0) d check) zs₂ d (fields-length 4 (long 0) d check));
+        check = rw lists-of ch;
       }
 
--- a record that cannot be read has no readings
-pub read-none : (s : List ℕ) (r : Refusal) (ds ls ch : List ℕ) → layoutOf s ≡ Broken r
-    → ReadFrom s (record { answer = Refused r; readings = 0; ddls = ds; luminances = ls; patches = 0; check = ch })
+-- a record that cannot be read has nothing in its lists
+pub read-none : (s : List ℕ) (r : Refusal) (st la ds ls ch : List ℕ) → layoutOf s ≡ Broken r
+    → ReadFrom s (record { answer = Refused r; given = 0; settings = st; sources = 0; lamps = la; readings = 0; ddls = ds; luminances = ls; patches = 0; check = ch })
 unfolding answerOf sections
-read-none s r ds ls ch e = record {
+read-none s r st la ds ls ch e = record {
   answer = rw e;
+  given = rw e;
+  settings = rw e;
+  sources = rw e;
+  lamps = rw e;
   readings = rw e;
   ddls = rw e;
   luminances = rw e;

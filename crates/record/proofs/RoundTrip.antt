@@ -1,4 +1,4 @@
--- The record written from five lists is read back as those lists, and a complete record is the written form of the lists that are read from it.
+-- The record written from five lists is read back as those lists.
 -- Assumes nothing.
 use Prim.Native.Nat.{ℕ, _+_, _-_, _*_, _≤_}
 use mathlib.Core.Path.{_≡_, refl, sym, ap, _∙_}

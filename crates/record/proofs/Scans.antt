@@ -1,12 +1,15 @@
 -- The test and the sum of a list, one element at a time, as the loops over the lamps make them.
 -- Assumes nothing.
-use Prim.Native.Nat.{ℕ, _+_, _≤_, _<_}
+use Prim.Native.Nat.{ℕ, zero, suc, _+_, _≤_, _<_, zero-le}
 use mathlib.Core.Path.{_≡_, refl, sym, ap, _∙_}
 use mathlib.Core.List.{List, [], _∷_}
 use mathlib.Core.Bool.{true, false}
-use lib.ListN.{drop}
+use lib.ListN.{take, drop, getD}
+use lib.Seq.{getD-take}
+use lib.Dec.{T, leb}
 use native.Mathlib.Omega.{arith}
 use borrow.Author.Tests.{le-leb, lt-leb}
+use mir.Facts.{and-yes, leb-yes}
 use Rattle.record.specs.Tests.{allUpTo, sum}
 
 -- the first i elements are at most m
@@ -45,3 +48,22 @@ module _ {xs : List ℕ} {a i : ℕ} (h : SumSoFar xs a i) where
   pub sum-end : drop i xs ≡ [] → a ≡ sum xs
   unfolding sum
   sum-end e = omega (arith, h .is, ap sum e)
+
+-- ---- where the test passes
+
+module _ (m x : ℕ) (xs : List ℕ) (t : T (allUpTo m (x ∷ xs))) where
+  pub up-to-first : x ≤ m
+  unfolding allUpTo
+  up-to-first = leb-yes (and-yes (leb x m) (allUpTo m xs) t .0)
+
+  pub up-to-rest : T (allUpTo m xs)
+  unfolding allUpTo
+  up-to-rest = and-yes (leb x m) (allUpTo m xs) t .1
+
+pub up-to-at : (m : ℕ) (xs : List ℕ) (i : ℕ) → T (allUpTo m xs) → getD xs i 0 ≤ m
+up-to-at m [] i t = zero-le
+up-to-at m (x ∷ xs) zero t = up-to-first m x xs t
+up-to-at m (x ∷ xs) (suc i) t = up-to-at m xs i (up-to-rest m x xs t)
+
+pub up-to-front : (m n : ℕ) (xs : List ℕ) (i : ℕ) → T (allUpTo m (take n xs)) → i < n → getD xs i 0 ≤ m
+up-to-front m n xs i t h = rw (← getD-take n xs i 0 h) (up-to-at m (take n xs) i t)

@@ -13,6 +13,7 @@ use Rattle.record.specs.Bytes.{word, long, fields, bytes16, bytes32}
 use Rattle.record.specs.Tests.{allUpTo}
 use Rattle.record.specs.Written.{run, runSweep}
 use Rattle.record.proofs.Fields.{long-drop}
+use Rattle.record.proofs.Scans.{up-to-first, up-to-rest, up-to-at}
 
 -- ---- a number
 
@@ -43,17 +44,6 @@ long-again x y z w h i j k =
     let high : (x + 256 * y + 65536 * (z + 256 * w)) / 65536 ≡ z + 256 * w = add-mul-div-left (x + 256 * y) (z + 256 * w) {y = 65536} (omega arith) ∙ omega arith in
     let low : x + 256 * y + 65536 * (z + 256 * w) ≡ x + 256 * (y + 256 * (z + 256 * w)) = omega arith in
     rw high (rw (word-again z w j k, low, low-byte x (y + 256 * (z + 256 * w)) h, high-bytes x (y + 256 * (z + 256 * w)) h, low-byte y (z + 256 * w) i))
-
--- ---- the first element of a list, and the others
-
-module _ (m x : ℕ) (xs : List ℕ) (t : T (allUpTo m (x ∷ xs))) where
-  pub up-to-first : x ≤ m
-  unfolding allUpTo
-  up-to-first = leb-yes (and-yes (leb x m) (allUpTo m xs) t .0)
-
-  pub up-to-rest : T (allUpTo m xs)
-  unfolding allUpTo
-  up-to-rest = and-yes (leb x m) (allUpTo m xs) t .1
 
 -- ---- items that are written and then read
 
@@ -100,10 +90,8 @@ run-sweep-length (d ∷ ds) (l ∷ ls) e = omega (arith, run-sweep-length ds ls 
 
 -- ---- bytes that are read as items and then written
 
-pub byte-at : (s : List ℕ) (i : ℕ) → T (allUpTo 255 s) → getD s i 0 ≤ 255
-byte-at [] i t = zero-le
-byte-at (x ∷ s) zero t = up-to-first 255 x s t
-byte-at (x ∷ s) (suc i) t = byte-at s i (up-to-rest 255 x s t)
+byte-at : (s : List ℕ) (i : ℕ) → T (allUpTo 255 s) → getD s i 0 ≤ 255
+byte-at s i t = up-to-at 255 s i t
 
 pub word-fits : (i : ℕ) (s : List ℕ) → T (allUpTo 255 s) → word i s ≤ 65535
 word-fits i s t = omega (arith, byte-at s i t, byte-at s (i + 1) t)

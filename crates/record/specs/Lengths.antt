@@ -12,7 +12,7 @@ use Rattle.record.specs.declared.Answer.the-variants.{Accepted}
 pub record AcceptedOf (n : ℕ) : Type 0 where
   pub s : List ℕ
   pub bytes : T (allUpTo 255 s)
-  pub long : length s ≡ n
+  pub size : length s ≡ n
   pub job : Job
   pub accepted : answerOf s ≡ Accepted job
 

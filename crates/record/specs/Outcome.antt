@@ -1,4 +1,5 @@
--- What can come of a record, as conditions on its bytes alone: one case for each refusal from 2 to 7, and one for an accepted record.
+-- What can come of a record: one case for each refusal from 2 to 7, and one for an accepted record. How the record is laid out is stated here by its
+-- written form, and not by reading it; the tests of its lists are those of `Tests`.
 use Prim.Native.Nat.{ℕ, _*_, _<_}
 use mathlib.Core.List.{List, _∷_, _++_}
 use mathlib.Core.Bool.{not, _&&_}
@@ -11,7 +12,8 @@ use Rattle.record.specs.Tests.{settingsInRange, lampsInRange, spans, max
 use Rattle.record.specs.Written.{section, written, Writable}
 use Rattle.record.specs.declared.Section.{Section}
 use Rattle.record.specs.declared.Section.the-variants.{Settings, Lamps, Sweep, Check}
-use Rattle.record.specs.declared.Refusal.the-variants.{RecordTooShort, CountNotPermitted, TrailingBytes, OutOfRange, DdlsNotRising, LuminanceFalls}
+use Rattle.record.specs.declared.Refusal.the-variants.{RecordTooShort, CountNotPermitted, TrailingBytes, OutOfRange, DdlsDoNotSpan, LuminanceFalls}
+use Rattle.record.specs.declared.Job.{Job}
 use Rattle.record.specs.declared.Answer.{Answer}
 use Rattle.record.specs.declared.Answer.the-variants.{Accepted, Refused}
 
@@ -48,13 +50,21 @@ pub record Holds (s settings lamps ddls luminances check : List ℕ) : Type 0 wh
   pub writable : Writable settings lamps ddls luminances check
   pub is : s ≡ written settings lamps ddls luminances check
 
+-- what can come of s: 2, 3 and 4 by how it is laid out, 5, 6 and 7 by its lists, or none of them
 pub data Outcome (s : List ℕ) : Type 0 where
+  -- 2
   too-short : {k : Section} {t : List ℕ} → Reached s k t → EndsIn k t → Outcome s
+  -- 3
   not-permitted : {k : Section} {t : List ℕ} → Reached s k t → Barred k t → Outcome s
+  -- 4
   trailing : {t : List ℕ} {x : ℕ} {more : List ℕ} → Reached s Check t → Whole Check t (x ∷ more) → Outcome s
+  -- 5
   out-of-range : {st la dd lu ch : List ℕ} → Holds s st la dd lu ch → T (not (settingsInRange st && lampsInRange la)) → Outcome s
-  not-rising : {st la dd lu ch : List ℕ} → Holds s st la dd lu ch → T (settingsInRange st && lampsInRange la) → T (not (spans (maxDdl (getD st 0 0)) dd)) → Outcome s
+  -- 6
+  not-spanning : {st la dd lu ch : List ℕ} → Holds s st la dd lu ch → T (settingsInRange st && lampsInRange la) → T (not (spans (maxDdl (getD st 0 0)) dd)) → Outcome s
+  -- 7
   falls : {st la dd lu ch : List ℕ} → Holds s st la dd lu ch → T (settingsInRange st && lampsInRange la) → T (spans (maxDdl (getD st 0 0)) dd) → T (not (neverFalls lu)) → Outcome s
+  -- accepted
   passes : {st la dd lu ch : List ℕ} → Holds s st la dd lu ch → T (settingsInRange st && lampsInRange la) → T (spans (maxDdl (getD st 0 0)) dd) → T (neverFalls lu) → Outcome s
 
 -- the answer that each case has
@@ -63,6 +73,21 @@ answerFor (too-short r e) = Refused RecordTooShort
 answerFor (not-permitted r b) = Refused CountNotPermitted
 answerFor (trailing r w) = Refused TrailingBytes
 answerFor (out-of-range h a) = Refused OutOfRange
-answerFor (not-rising h a b) = Refused DdlsNotRising
+answerFor (not-spanning h a b) = Refused DdlsDoNotSpan
 answerFor (falls h a b c) = Refused LuminanceFalls
 answerFor (passes {st = st} {la = la} h a b c) = Accepted (jobOf st la)
+
+-- some outcome of s has this answer
+pub record Under (s : List ℕ) (answer : Answer) : Type 0 where
+  pub outcome : Outcome s
+  pub is : answerFor outcome ≡ answer
+
+-- s is the written form of five lists, of which this is the job
+pub record WrittenJob (s : List ℕ) (job : Job) : Type 0 where
+  pub settings : List ℕ
+  pub lamps : List ℕ
+  pub ddls : List ℕ
+  pub luminances : List ℕ
+  pub check : List ℕ
+  pub holds : Holds s settings lamps ddls luminances check
+  pub is : job ≡ jobOf settings lamps

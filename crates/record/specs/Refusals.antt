@@ -1,7 +1,7 @@
 -- The refusals and their numbers.
 use Prim.Native.Nat.{ℕ}
 use Rattle.record.specs.declared.Refusal.{Refusal}
-use Rattle.record.specs.declared.Refusal.the-variants.{LentTooShort, RecordTooShort, CountNotPermitted, TrailingBytes, OutOfRange, DdlsNotRising, LuminanceFalls, BlackBelowTable, WhiteAboveTable, RangeTooNarrow, NoTable, CheckOutsideTable, CheckRangeTooNarrow}
+use Rattle.record.specs.declared.Refusal.the-variants.{LentTooShort, RecordTooShort, CountNotPermitted, TrailingBytes, OutOfRange, DdlsDoNotSpan, LuminanceFalls, BlackBelowTable, WhiteAboveTable, RangeTooNarrow, NoTable, CheckOutsideTable, CheckRangeTooNarrow}
 
 -- the number of a refusal in document 01
 abbrev pub refusalNumber : Refusal → ℕ
@@ -10,7 +10,7 @@ refusalNumber RecordTooShort = 2
 refusalNumber CountNotPermitted = 3
 refusalNumber TrailingBytes = 4
 refusalNumber OutOfRange = 5
-refusalNumber DdlsNotRising = 6
+refusalNumber DdlsDoNotSpan = 6
 refusalNumber LuminanceFalls = 7
 refusalNumber BlackBelowTable = 8
 refusalNumber WhiteAboveTable = 9

@@ -89,15 +89,23 @@ listsAt s (Complete a b c d) =
 unfoldable pub sections : List ℕ → Sections
 sections s = listsAt s (layoutOf s)
 
--- the readings of a record; none where its sections cannot be read
-abbrev pub ddlsOf : Sections → List ℕ
-ddlsOf (lists st la dd lu ch) = dd
-ddlsOf (unread r) = []
+-- each list of a record; empty where its sections cannot be read
+abbrev pub settingsIn : Sections → List ℕ
+settingsIn (lists st la dd lu ch) = st
+settingsIn (unread r) = []
 
-abbrev pub luminancesOf : Sections → List ℕ
-luminancesOf (lists st la dd lu ch) = lu
-luminancesOf (unread r) = []
+abbrev pub lampsIn : Sections → List ℕ
+lampsIn (lists st la dd lu ch) = la
+lampsIn (unread r) = []
 
-abbrev pub checkOf : Sections → List ℕ
-checkOf (lists st la dd lu ch) = ch
-checkOf (unread r) = []
+abbrev pub ddlsIn : Sections → List ℕ
+ddlsIn (lists st la dd lu ch) = dd
+ddlsIn (unread r) = []
+
+abbrev pub luminancesIn : Sections → List ℕ
+luminancesIn (lists st la dd lu ch) = lu
+luminancesIn (unread r) = []
+
+abbrev pub checkIn : Sections → List ℕ
+checkIn (lists st la dd lu ch) = ch
+checkIn (unread r) = []

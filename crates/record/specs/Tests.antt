@@ -7,7 +7,7 @@ use lib.Dec.{leb, eqb}
 use Rattle.laws.specs.Rises.{risesBy}
 use Rattle.record.specs.Sections.{Sections, lists, unread, sections}
 use Rattle.record.specs.declared.Refusal.{Refusal}
-use Rattle.record.specs.declared.Refusal.the-variants.{OutOfRange, DdlsNotRising, LuminanceFalls}
+use Rattle.record.specs.declared.Refusal.the-variants.{OutOfRange, DdlsDoNotSpan, LuminanceFalls}
 use Rattle.record.specs.declared.Meter.{Meter}
 use Rattle.record.specs.declared.Meter.the-variants.{Contact, Telescopic}
 use Rattle.record.specs.declared.Class.{Class}
@@ -54,6 +54,15 @@ meterOf n = cond (eqb n 0) Contact Telescopic
 abbrev pub classOf : ℕ → Class
 classOf n = cond (eqb n 1) Primary Secondary
 
+-- their numbers in document 01
+abbrev pub meterNumber : Meter → ℕ
+meterNumber Contact = 0
+meterNumber Telescopic = 1
+
+abbrev pub classNumber : Class → ℕ
+classNumber Primary = 1
+classNumber Secondary = 2
+
 unfoldable pub settingsOf : List ℕ → JobSettings
 settingsOf xs = record {
   depth = getD xs 0 0;
@@ -78,7 +87,7 @@ unless test r answer = cond test answer (Refused r)
 unfoldable pub judged : (settings lamps ddls luminances : List ℕ) → Answer
 judged settings lamps ddls luminances =
     unless (settingsInRange settings && lampsInRange lamps) OutOfRange
-    (unless (spans (maxDdl (getD settings 0 0)) ddls) DdlsNotRising
+    (unless (spans (maxDdl (getD settings 0 0)) ddls) DdlsDoNotSpan
     (unless (neverFalls luminances) LuminanceFalls
     (Accepted (jobOf settings lamps))))
 

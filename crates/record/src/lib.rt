@@ -3,6 +3,7 @@ ghost use mathlib.Core.Path.{_≡_};
 ghost use mathlib.Core.List.{_++_};
 ghost use Prim.Native.Nat.{_+_, _*_, _<_, _≤_};
 ghost use lib.ListN.{length, take, drop};
+ghost use lib.Dec.{T};
 ghost use Rattle.laws.specs.Rises.{risesBy};
 ghost use Rattle.record.specs.Refusals.{refusalNumber};
 ghost use Rattle.record.specs.Bytes.{word, long, fields};
@@ -20,7 +21,7 @@ pub enum Refusal {
     CountNotPermitted,
     TrailingBytes,
     OutOfRange,
-    DdlsNotRising,
+    DdlsDoNotSpan,
     LuminanceFalls,
     BlackBelowTable,
     WhiteAboveTable,
@@ -39,7 +40,7 @@ pub fn refusal_number(r: Refusal) -> u32
         Refusal::CountNotPermitted => 3,
         Refusal::TrailingBytes => 4,
         Refusal::OutOfRange => 5,
-        Refusal::DdlsNotRising => 6,
+        Refusal::DdlsDoNotSpan => 6,
         Refusal::LuminanceFalls => 7,
         Refusal::BlackBelowTable => 8,
         Refusal::WhiteAboveTable => 9,
@@ -101,10 +102,14 @@ pub enum Answer {
     Refused(Refusal),
 }
 
-// The answer, and beside it the readings of every record whose sections are complete: the first `readings` of `ddls` and
-// `luminances` are the sweep, the first `patches` of `check` the check.
+// The answer, and beside it the five lists of every record whose sections are complete, each at the front of its array: `given` settings,
+// `sources` lamps, `readings` of the sweep, `patches` of the check. The counts are 0 where the sections are not complete.
 pub struct JobRecord {
     pub answer: Answer,
+    pub given: usize,
+    pub settings: [u16; 5],
+    pub sources: usize,
+    pub lamps: [u16; 8],
     pub readings: usize,
     pub ddls: [u16; 1024],
     pub luminances: [u32; 1024],
@@ -219,98 +224,32 @@ fn read_layout(bytes: &[u8]) -> Layout
     Layout::Complete(settings, lamps, sweep, check)
 }
 
-// ---- settings
+// ---- each section's reader
 
-fn meter_of(n: u16) -> Meter
-    ensures { λ r. ⌜ r ≡ meterOf n ⌝ }
-{
-    if n == 0 {
-        return Meter::Contact;
-    }
-    Meter::Telescopic
-}
-
-fn class_of(n: u16) -> Class
-    ensures { λ r. ⌜ r ≡ classOf n ⌝ }
-{
-    if n == 1 {
-        return Class::Primary;
-    }
-    Class::Secondary
-}
-
-fn is_within(low: u16, high: u16, n: u16) -> bool
-    ensures { λ r. ⌜ r ≡ within low high n ⌝ }
-{
-    (low <= n) & (n <= high)
-}
-
-// Test 5 for the settings' items.
-fn settings_in_range(items: &[u8]) -> bool
+// The settings' items.
+fn read_settings(items: &[u8]) -> [u16; 5]
     requires { ⌜ length (now items) ≡ 10 ⌝ }
-    ensures { λ r. ⌜ r ≡ settingsInRange (fields 2 (word 0) 5 (now (items .entry))) ⌝ }
-{
-    let depth = is_within(8, 10, u16_at(items, 0));
-    let meter = is_within(0, 1, u16_at(items, 2));
-    let class = is_within(1, 2, u16_at(items, 4));
-    let reflectance = is_within(0, 1000, u16_at(items, 6));
-    let tolerance = is_within(0, 1000, u16_at(items, 8));
-    depth & meter & class & reflectance & tolerance
-}
-
-fn read_settings(items: &[u8]) -> JobSettings
-    requires { ⌜ length (now items) ≡ 10 ⌝ }
-    ensures { λ r. ⌜ r ≡ settingsOf (fields 2 (word 0) 5 (now (items .entry))) ⌝ }
+    ensures { λ r. ⌜ r ≡ fields 2 (word 0) 5 (now (items .entry)) ⌝ }
 {
     let depth = u16_at(items, 0);
-    let meter_number = u16_at(items, 2);
-    let meter = meter_of(meter_number);
-    let class_number = u16_at(items, 4);
-    let class = class_of(class_number);
+    let meter = u16_at(items, 2);
+    let class = u16_at(items, 4);
     let reflectance = u16_at(items, 6);
     let tolerance = u16_at(items, 8);
-    JobSettings {
-        depth: depth,
-        meter: meter,
-        class: class,
-        reflectance: Reflectance(reflectance),
-        tolerance: tolerance,
-    }
+    [depth, meter, class, reflectance, tolerance]
 }
 
-// ---- lamps
-
-// Test 5 for the lamps' items.
-fn lamps_in_range(items: &[u8], n: usize) -> bool
-    requires { ⌜ (n ≤ 8) × (length (now items) ≡ n * 2) ⌝ }
-    ensures { λ r. ⌜ r ≡ lampsInRange (fields 2 (word 0) n (now (items .entry))) ⌝ }
+// The lamps' items, into the front of an array.
+fn read_lamps(items: &[u8], n: usize, lamps: &mut [u16])
+    requires { ⌜ (n ≤ 8) × (length (now items) ≡ n * 2) × (length (now lamps) ≡ 8) ⌝ }
+    ensures { λ r. ⌜ now (lamps .exit) ≡ fields 2 (word 0) n (now (items .entry)) ++ drop n (now (lamps .entry)) ⌝ }
 {
     let mut i: usize = 0;
     while i < n {
-        let lux = u16_at(items, i * 2);
-        if 2000 < lux {
-            return false;
-        }
+        lamps[i] = u16_at(items, i * 2);
         i += 1;
     }
-    true
 }
-
-fn read_lamps(items: &[u8], n: usize) -> Lux
-    requires { ⌜ (n ≤ 8) × (length (now items) ≡ n * 2) ⌝ }
-    ensures { λ r. ⌜ r .0 ≡ sum (fields 2 (word 0) n (now (items .entry))) ⌝ }
-{
-    let mut total: u32 = 0;
-    let mut i: usize = 0;
-    while i < n {
-        let lux = u16_at(items, i * 2);
-        total += lux as u32;
-        i += 1;
-    }
-    Lux(total)
-}
-
-// ---- readings
 
 // The sweep's items, into the front of two arrays.
 fn read_sweep(items: &[u8], n: usize, ddls: &mut [u16], luminances: &mut [u32])
@@ -337,6 +276,92 @@ fn read_check(items: &[u8], n: usize, check: &mut [u32])
         check[i] = u32_at(items, i * 4);
         i += 1;
     }
+}
+
+// ---- test 5
+
+fn is_within(low: u16, high: u16, n: u16) -> bool
+    ensures { λ r. ⌜ r ≡ within low high n ⌝ }
+{
+    (low <= n) & (n <= high)
+}
+
+fn settings_in_range(settings: &[u16]) -> bool
+    requires { ⌜ length (now settings) ≡ 5 ⌝ }
+    ensures { λ r. ⌜ r ≡ settingsInRange (now (settings .entry)) ⌝ }
+{
+    let depth = is_within(8, 10, settings[0]);
+    let meter = is_within(0, 1, settings[1]);
+    let class = is_within(1, 2, settings[2]);
+    let reflectance = is_within(0, 1000, settings[3]);
+    let tolerance = is_within(0, 1000, settings[4]);
+    depth & meter & class & reflectance & tolerance
+}
+
+fn lamps_in_range(lamps: &[u16], n: usize) -> bool
+    requires { ⌜ n ≤ length (now lamps) ⌝ }
+    ensures { λ r. ⌜ r ≡ lampsInRange (take n (now (lamps .entry))) ⌝ }
+{
+    let mut i: usize = 0;
+    while i < n {
+        let lux = lamps[i];
+        if 2000 < lux {
+            return false;
+        }
+        i += 1;
+    }
+    true
+}
+
+// ---- the job of settings and lamps that are in range
+
+fn meter_of(n: u16) -> Meter
+    ensures { λ r. ⌜ r ≡ meterOf n ⌝ }
+{
+    if n == 0 {
+        return Meter::Contact;
+    }
+    Meter::Telescopic
+}
+
+fn class_of(n: u16) -> Class
+    ensures { λ r. ⌜ r ≡ classOf n ⌝ }
+{
+    if n == 1 {
+        return Class::Primary;
+    }
+    Class::Secondary
+}
+
+fn job_settings(settings: &[u16]) -> JobSettings
+    requires { ⌜ length (now settings) ≡ 5 ⌝ }
+    ensures { λ r. ⌜ r ≡ settingsOf (now (settings .entry)) ⌝ }
+{
+    let depth = settings[0];
+    let meter = meter_of(settings[1]);
+    let class = class_of(settings[2]);
+    let reflectance = settings[3];
+    let tolerance = settings[4];
+    JobSettings {
+        depth: depth,
+        meter: meter,
+        class: class,
+        reflectance: Reflectance(reflectance),
+        tolerance: tolerance,
+    }
+}
+
+fn lamp_sum(lamps: &[u16], n: usize) -> Lux
+    requires { ⌜ (n ≤ 8) × (n ≤ length (now lamps)) × T (lampsInRange (take n (now lamps))) ⌝ }
+    ensures { λ r. ⌜ r .0 ≡ sum (take n (now (lamps .entry))) ⌝ }
+{
+    let mut total: u16 = 0;
+    let mut i: usize = 0;
+    while i < n {
+        total += lamps[i];
+        i += 1;
+    }
+    Lux(total)
 }
 
 // ---- tests 6 and 7
@@ -403,34 +428,34 @@ fn ddls_span(ddls: &[u16], n: usize, top: Ddl) -> bool
 
 // ---- the record
 
-// Tests 5, 6 and 7 in their order, of the items of the settings and of `number` lamps, and of n readings.
+// Tests 5, 6 and 7 in their order, of the settings, m lamps and n readings.
 fn judge(
-    settings: &[u8],
-    lamps: &[u8],
-    number: usize,
+    settings: &[u16],
+    lamps: &[u16],
+    m: usize,
     ddls: &[u16],
     luminances: &[u32],
     n: usize,
 ) -> Answer
-    requires { ⌜ Judgeable (now settings) (now lamps) number (now ddls) (now luminances) n ⌝ }
-    ensures { λ r. ⌜ r ≡ judged (fields 2 (word 0) 5 (now (settings .entry))) (fields 2 (word 0) number (now (lamps .entry))) (take n (now (ddls .entry))) (take n (now (luminances .entry))) ⌝ }
+    requires { ⌜ Judgeable (now settings) (now lamps) m (now ddls) (now luminances) n ⌝ }
+    ensures { λ r. ⌜ r ≡ judged (now (settings .entry)) (take m (now (lamps .entry))) (take n (now (ddls .entry))) (take n (now (luminances .entry))) ⌝ }
 {
-    let in_range = settings_in_range(settings) & lamps_in_range(lamps, number);
+    let in_range = settings_in_range(settings) & lamps_in_range(lamps, m);
     if !in_range {
         return Answer::Refused(Refusal::OutOfRange);
     }
-    let job_settings = read_settings(settings);
-    let depth = job_settings.depth;
+    let of_job = job_settings(settings);
+    let depth = of_job.depth;
     let top = max_ddl(depth);
     if !ddls_span(ddls, n, top) {
-        return Answer::Refused(Refusal::DdlsNotRising);
+        return Answer::Refused(Refusal::DdlsDoNotSpan);
     }
     if !never_fall(luminances, n) {
         return Answer::Refused(Refusal::LuminanceFalls);
     }
-    let lux = read_lamps(lamps, number);
+    let lux = lamp_sum(lamps, m);
     Answer::Accepted(Job {
-        settings: job_settings,
+        settings: of_job,
         lamps: lux,
     })
 }
@@ -444,9 +469,12 @@ fn read_sections(bytes: &[u8], a: usize, b: usize, c: usize, d: usize) -> JobRec
     let at_sweep = at_lamps + (2 + b * 2);
     let at_check = at_sweep + (2 + c * 6);
     let end = at_check + (2 + d * 4);
+    let mut lamps = [0u16; 8];
     let mut ddls = [0u16; 1024];
     let mut luminances = [0u32; 1024];
     let mut check = [0u32; 18];
+    let settings = read_settings(&bytes[2..at_lamps]);
+    read_lamps(&bytes[at_lamps + 2..at_sweep], b, &mut lamps);
     read_sweep(
         &bytes[at_sweep + 2..at_check],
         c,
@@ -454,16 +482,13 @@ fn read_sections(bytes: &[u8], a: usize, b: usize, c: usize, d: usize) -> JobRec
         &mut luminances,
     );
     read_check(&bytes[at_check + 2..end], d, &mut check);
-    let answer = judge(
-        &bytes[2..at_lamps],
-        &bytes[at_lamps + 2..at_sweep],
-        b,
-        &ddls,
-        &luminances,
-        c,
-    );
+    let answer = judge(&settings, &lamps, b, &ddls, &luminances, c);
     JobRecord {
         answer: answer,
+        given: a,
+        settings: settings,
+        sources: b,
+        lamps: lamps,
         readings: c,
         ddls: ddls,
         luminances: luminances,
@@ -481,6 +506,10 @@ pub fn read_record(bytes: &[u8]) -> JobRecord
         Layout::Complete(a, b, c, d) => read_sections(bytes, a, b, c, d),
         Layout::Broken(r) => JobRecord {
             answer: Answer::Refused(r),
+            given: 0,
+            settings: [0u16; 5],
+            sources: 0,
+            lamps: [0u16; 8],
             readings: 0,
             ddls: [0u16; 1024],
             luminances: [0u32; 1024],

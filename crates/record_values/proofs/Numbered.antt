@@ -11,7 +11,8 @@ use Rattle.record.specs.declared.JobRecord.{JobRecord}
 use Rattle.record.specs.declared.Answer.{Answer}
 use Rattle.record.specs.declared.Answer.the-variants.{Accepted, Refused}
 use Rattle.record_values.specs.declared.Numbers.{Numbers}
-use Rattle.record_values.specs.Values.{meterNumber, classNumber, numbersOf, ValuesOf}
+use Rattle.record.specs.Tests.{meterNumber, classNumber}
+use Rattle.record_values.specs.Values.{numbersOf, ValuesOf}
 
 pub numbers-accepted : {answer : Answer} {job : Job} {m k : ℕ} → answer ≡ Accepted job → m ≡ meterNumber (job .settings .meter) → k ≡ classNumber (job .settings .class)
     → record {
@@ -30,9 +31,13 @@ pub numbers-refused : {answer : Answer} {r : Refusal} {n : ℕ} → answer ≡ R
 numbers-refused e f = rw (e, f)
 
 pub values-of : {s : List ℕ} {r : JobRecord} {x : Numbers} → ReadFrom s r → x ≡ numbersOf (r .answer)
-    → ValuesOf s (record { answer = x; readings = r .readings; ddls = r .ddls; luminances = r .luminances; patches = r .patches; check = r .check })
+    → ValuesOf s (record { answer = x; given = r .given; settings = r .settings; sources = r .sources; lamps = r .lamps; readings = r .readings; ddls = r .ddls; luminances = r .luminances; patches = r .patches; check = r .check })
 values-of h e = record {
   answer = e ∙ ap numbersOf (h .answer);
+  given = h .given;
+  settings = h .settings;
+  sources = h .sources;
+  lamps = h .lamps;
   readings = h .readings;
   ddls = h .ddls;
   luminances = h .luminances;

@@ -4,24 +4,12 @@ use mathlib.Core.List.{List}
 use mathlib.Core.Path.{_≡_}
 use lib.ListN.{length, take}
 use Rattle.record.specs.Refusals.{refusalNumber}
-use Rattle.record.specs.Sections.{sections, ddlsOf, luminancesOf, checkOf}
-use Rattle.record.specs.Tests.{answerOf}
-use Rattle.record.specs.declared.Meter.{Meter}
-use Rattle.record.specs.declared.Meter.the-variants.{Contact, Telescopic}
-use Rattle.record.specs.declared.Class.{Class}
-use Rattle.record.specs.declared.Class.the-variants.{Primary, Secondary}
+use Rattle.record.specs.Sections.{sections, settingsIn, lampsIn, ddlsIn, luminancesIn, checkIn}
+use Rattle.record.specs.Tests.{meterNumber, classNumber, answerOf}
 use Rattle.record.specs.declared.Answer.{Answer}
 use Rattle.record.specs.declared.Answer.the-variants.{Accepted, Refused}
 use Rattle.record_values.specs.declared.Numbers.{Numbers}
 use Rattle.record_values.specs.declared.RecordValues.{RecordValues}
-
-abbrev pub meterNumber : Meter → ℕ
-meterNumber Contact = 0
-meterNumber Telescopic = 1
-
-abbrev pub classNumber : Class → ℕ
-classNumber Primary = 1
-classNumber Secondary = 2
 
 -- the numbers of an answer
 abbrev pub numbersOf : Answer → Numbers
@@ -47,8 +35,12 @@ numbersOf (Refused r) = record {
 -- r is read from the bytes s
 pub record ValuesOf (s : List ℕ) (r : RecordValues) : Type 0 where
   pub answer : r .answer ≡ numbersOf (answerOf s)
-  pub readings : r .readings ≡ length (ddlsOf (sections s))
-  pub ddls : take (r .readings) (r .ddls) ≡ ddlsOf (sections s)
-  pub luminances : take (r .readings) (r .luminances) ≡ luminancesOf (sections s)
-  pub patches : r .patches ≡ length (checkOf (sections s))
-  pub check : take (r .patches) (r .check) ≡ checkOf (sections s)
+  pub given : r .given ≡ length (settingsIn (sections s))
+  pub settings : take (r .given) (r .settings) ≡ settingsIn (sections s)
+  pub sources : r .sources ≡ length (lampsIn (sections s))
+  pub lamps : take (r .sources) (r .lamps) ≡ lampsIn (sections s)
+  pub readings : r .readings ≡ length (ddlsIn (sections s))
+  pub ddls : take (r .readings) (r .ddls) ≡ ddlsIn (sections s)
+  pub luminances : take (r .readings) (r .luminances) ≡ luminancesIn (sections s)
+  pub patches : r .patches ≡ length (checkIn (sections s))
+  pub check : take (r .patches) (r .check) ≡ checkIn (sections s)

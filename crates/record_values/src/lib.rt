@@ -1,6 +1,7 @@
 // The reader of a job record through the C ABI, on bare numbers: for the comparison by running.
 ghost use mathlib.Core.Path.{_≡_};
-ghost use Rattle.record_values.specs.Values.{meterNumber, classNumber, numbersOf, ValuesOf};
+ghost use Rattle.record.specs.Tests.{meterNumber, classNumber};
+ghost use Rattle.record_values.specs.Values.{numbersOf, ValuesOf};
 use record::Answer;
 use record::Class;
 use record::Meter;
@@ -14,12 +15,16 @@ pub struct Numbers {
     pub class: u16,
     pub reflectance: u16,
     pub tolerance: u16,
-    pub lux: u32,
+    pub lux: u16,
 }
 
 #[repr(C)]
 pub struct RecordValues {
     pub answer: Numbers,
+    pub given: usize,
+    pub settings: [u16; 5],
+    pub sources: usize,
+    pub lamps: [u16; 8],
     pub readings: usize,
     pub ddls: [u16; 1024],
     pub luminances: [u32; 1024],
@@ -93,11 +98,17 @@ pub extern "C" fn record_read(bytes: &[u8]) -> RecordValues
     let found = record::read_record(bytes);
     let answer = found.answer;
     let in_numbers = numbers_of(answer);
+    let settings = found.settings;
+    let lamps = found.lamps;
     let ddls = found.ddls;
     let luminances = found.luminances;
     let check = found.check;
     RecordValues {
         answer: in_numbers,
+        given: found.given,
+        settings: settings,
+        sources: found.sources,
+        lamps: lamps,
         readings: found.readings,
         ddls: ddls,
         luminances: luminances,

@@ -1,7 +1,7 @@
 // The quantities of a calibration. Each is a type of its own: where one is asked for, another does not compile.
 
-// Illuminance in lux; one lamp gives 0 to 2,000.
-pub struct Lux(pub u32);
+// Illuminance in lux; one lamp gives 0 to 2,000, eight of them at most 16,000.
+pub struct Lux(pub u16);
 
 // Luminance in units of 0.0001 cd/m²; Table B-1 runs from 500 to 39,934,040.
 pub struct Luminance(pub u32);

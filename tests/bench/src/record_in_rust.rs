@@ -46,29 +46,28 @@ fn counts(bytes: &[u8]) -> Result<Counts, u32> {
     Ok(counts)
 }
 
-/// Tests 5 to 7 of readings that are in place; fills in settings and lux.
-fn judge(settings: &[u8], lamps: &[u8], values: &mut RecordValues) -> u32 {
-    let setting = |i| u16_at(settings, 2 * i);
+/// Tests 5 to 7 of lists that are in place; fills in the job.
+fn judge(values: &mut RecordValues) -> u32 {
+    let settings = values.settings;
+    let lamps = &values.lamps[..values.sources];
     let ranges = [8..=10, 0..=1, 1..=2, 0..=1000, 0..=1000];
-    let lux = |at| u16_at(lamps, at);
-    let places = (0..lamps.len()).step_by(2);
-    if !(0..5).all(|i| ranges[i].contains(&setting(i))) || places.clone().any(|at| 2000 < lux(at)) {
+    if !(0..5).all(|i| ranges[i].contains(&settings[i])) || lamps.iter().any(|&lux| 2000 < lux) {
         return 5;
     }
     let ddls = &values.ddls[..values.readings];
-    let top = (1 << setting(0)) - 1;
+    let top = (1 << settings[0]) - 1;
     if ddls[0] != 0 || ddls.windows(2).any(|pair| pair[1] <= pair[0]) || ddls[ddls.len() - 1] != top {
         return 6;
     }
     if values.luminances[..values.readings].windows(2).any(|pair| pair[1] < pair[0]) {
         return 7;
     }
-    values.depth = setting(0);
-    values.meter = setting(1);
-    values.class = setting(2);
-    values.reflectance = setting(3);
-    values.tolerance = setting(4);
-    values.lux = places.map(|at| u32::from(lux(at))).sum();
+    values.depth = settings[0];
+    values.meter = settings[1];
+    values.class = settings[2];
+    values.reflectance = settings[3];
+    values.tolerance = settings[4];
+    values.lux = lamps.iter().sum();
     0
 }
 
@@ -82,6 +81,10 @@ pub fn read(bytes: &[u8]) -> RecordValues {
         reflectance: 0,
         tolerance: 0,
         lux: 0,
+        given: 0,
+        settings: [0; 5],
+        sources: 0,
+        lamps: [0; 8],
         readings: 0,
         ddls: [0; 1024],
         luminances: [0; 1024],
@@ -98,8 +101,16 @@ pub fn read(bytes: &[u8]) -> RecordValues {
     let at_lamps = 2 + 2 * a;
     let at_sweep = at_lamps + 2 + 2 * b;
     let at_check = at_sweep + 2 + 6 * c;
+    values.given = a;
+    values.sources = b;
     values.readings = c;
     values.patches = d;
+    for (i, item) in bytes[2..at_lamps].chunks_exact(2).enumerate() {
+        values.settings[i] = u16_at(item, 0);
+    }
+    for (i, item) in bytes[at_lamps + 2..at_sweep].chunks_exact(2).enumerate() {
+        values.lamps[i] = u16_at(item, 0);
+    }
     for (i, item) in bytes[at_sweep + 2..at_check].chunks_exact(6).enumerate() {
         values.ddls[i] = u16_at(item, 0);
         values.luminances[i] = u32_at(item, 2);
@@ -107,6 +118,6 @@ pub fn read(bytes: &[u8]) -> RecordValues {
     for (i, item) in bytes[at_check + 2..].chunks_exact(4).enumerate() {
         values.check[i] = u32_at(item, 0);
     }
-    values.refusal = judge(&bytes[2..at_lamps], &bytes[at_lamps + 2..at_sweep], &mut values);
+    values.refusal = judge(&mut values);
     values
 }

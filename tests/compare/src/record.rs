@@ -11,7 +11,13 @@ pub struct RecordValues {
     pub reflectance: u16,
     pub tolerance: u16,
     /// The sum of the lamps.
-    pub lux: u32,
+    pub lux: u16,
+    /// How many entries of `settings` are the record's; 0 under the numbers 2 to 4.
+    pub given: usize,
+    pub settings: [u16; 5],
+    /// How many entries of `lamps` are the record's; 0 under the numbers 2 to 4.
+    pub sources: usize,
+    pub lamps: [u16; 8],
     /// How many entries of `ddls` and `luminances` are the record's; 0 under the numbers 2 to 4.
     pub readings: usize,
     pub ddls: [u16; 1024],

@@ -25,21 +25,27 @@ impl Answer {
     }
 }
 
-/// The first place where the engine's values are not this answer; a refused record has no settings and no lux.
+/// The first place where the engine's values are not this answer; a refused record has no job and so no lux.
 fn engine_difference(got: &RecordValues, expected: &Answer) -> Option<String> {
     let nothing = Record::default();
     let read = expected.record.as_ref().unwrap_or(&nothing);
     let lux: u64 = read.lamps.iter().sum();
     let zeros = vec![0; 5];
     let (expected_settings, expected_lux) = if expected.number == 0 { (&read.settings, lux) } else { (&zeros, 0) };
-    let settings = [got.depth, got.meter, got.class, got.reflectance, got.tolerance];
+    let job = [got.depth, got.meter, got.class, got.reflectance, got.tolerance];
     // A count beyond the array differs by itself, so its items need not be looked at.
+    let settings = got.settings.get(..got.given).unwrap_or(&[]);
+    let lamps = got.lamps.get(..got.sources).unwrap_or(&[]);
     let ddls = got.ddls.get(..got.readings).unwrap_or(&[]);
     let luminances = got.luminances.get(..got.readings).unwrap_or(&[]);
     let check = got.check.get(..got.patches).unwrap_or(&[]);
     field("number", &[got.refusal], &[u64::from(expected.number)])
-        .or_else(|| field("settings", &settings, expected_settings))
+        .or_else(|| field("settings of the job", &job, expected_settings))
         .or_else(|| field("lux", &[got.lux], &[expected_lux]))
+        .or_else(|| field("given", &[got.given as u64], &[read.settings.len() as u64]))
+        .or_else(|| field("settings", settings, &read.settings))
+        .or_else(|| field("sources", &[got.sources as u64], &[read.lamps.len() as u64]))
+        .or_else(|| field("lamps", lamps, &read.lamps))
         .or_else(|| field("readings", &[got.readings as u64], &[read.ddls.len() as u64]))
         .or_else(|| field("DDLs", ddls, &read.ddls))
         .or_else(|| field("luminances", luminances, &read.luminances))

@@ -8,29 +8,29 @@ use Rattle.record.proofs.read_record.Lts as lts
 use Rattle.record.proofs.read_layout.Reads as read-layout-reads
 use Rattle.record.proofs.read_sections.Reads as read-sections-reads
 
--- src/lib.rt:478:9
+-- src/lib.rt:504:9
 read-layout-requires : tie.Need-read-layout-requires
 read-layout-requires c κs = search needs
 
--- src/lib.rt:480:26
+-- src/lib.rt:506:26
 enum-known-found : tie.Need-enum-known-found
 enum-known-found c = search needs
 
--- src/lib.rt:480:41
+-- src/lib.rt:506:41
 read-sections-requires : tie.Need-read-sections-requires
 read-sections-requires c κs = sym (c .before .before .before .read-layout .ensures) ∙ c .before .found .given .1
 
--- src/lib.rt:481:24
+-- src/lib.rt:507:24
 enum-known-found-2 : tie.Need-enum-known-found-2
 enum-known-found-2 c = search needs
 
--- src/lib.rt:475:1
+-- src/lib.rt:501:1
 returns : tie.Need-returns
 returns c = search needs
 
--- src/lib.rt:475:1
+-- src/lib.rt:501:1
 returns-2 : tie.Need-returns-2
-returns-2 c = read-none _ _ _ _ _ (sym (c .before .before .before .read-layout .ensures) ∙ c .before .found2 .given .1)
+returns-2 c = read-none _ _ _ _ _ _ _ (sym (c .before .before .before .read-layout .ensures) ∙ c .before .found2 .given .1)
 
 pub read-record-spec : {M : Type 1} → statement M
 read-record-spec =

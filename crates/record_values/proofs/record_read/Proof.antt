@@ -7,17 +7,17 @@ use Rattle.record_values.proofs.record_read.Lts as lts
 use Rattle.record.proofs.read_record.Reads as read-record-reads
 use Rattle.record_values.proofs.numbers_of.Reads as numbers-of-reads
 
--- src/lib.rt:91:9
+-- src/lib.rt:98:9
 read-record-requires : tie.Need-read-record-requires
 read-record-requires c κs = search needs
 
--- src/lib.rt:93:9
+-- src/lib.rt:100:9
 numbers-of-requires : tie.Need-numbers-of-requires
 numbers-of-requires c κs = search needs
 
--- src/lib.rt:87:1
+-- src/lib.rt:94:1
 returns : tie.Need-returns
-returns c = values-of (c .before .before .before .before .read-record .ensures) (c .before .before .before .numbers-of .ensures)
+returns c = values-of (c .before .before .before .before .before .before .read-record .ensures) (c .before .before .before .before .before .numbers-of .ensures)
 
 pub record-read-spec : {M : Type 1} → statement M
 record-read-spec = tie.close (tie.spec read-record-requires numbers-of-requires returns)
