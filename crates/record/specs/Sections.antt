@@ -1,7 +1,7 @@
 -- The four sections of a job record, read front to back.
 use Prim.Native.Nat.{ℕ, _+_, _*_}
 use mathlib.Core.List.{List, []}
-use mathlib.Core.Bool.{Bool, cond, _&&_, _||_}
+use mathlib.Core.Bool.{Bool, not, cond, _&&_, _||_}
 use lib.ListN.{length, take, drop}
 use lib.Dec.{ltb, leb, eqb}
 use Rattle.record.specs.Bytes.{word, long, fields}
@@ -28,13 +28,13 @@ width Lamps = 2
 width Sweep = 6
 width Check = 4
 
--- the section at the front of s: a count cut short, a count not permitted, items cut short, or the number of its items
+-- section k at the front of s: 2 where the bytes end in its count, 3 where it may not have that count, 2 where they end in its items; else the number of its items
 unfoldable pub countOf : Section → List ℕ → SectionCount
 countOf k s =
     cond (ltb (length s) 2) (Fault RecordTooShort)
-    (cond (permitted k (word 0 s))
-    (cond (ltb (length s) (2 + word 0 s * width k)) (Fault RecordTooShort) (Items (word 0 s)))
-    (Fault CountNotPermitted))
+    (cond (not (permitted k (word 0 s))) (Fault CountNotPermitted)
+    (cond (ltb (length s) (2 + word 0 s * width k)) (Fault RecordTooShort)
+    (Items (word 0 s))))
 
 -- the bytes of the n items of a section at the front of s
 abbrev pub items : Section → ℕ → List ℕ → List ℕ
