@@ -16,7 +16,7 @@ use Rattle.record.specs.declared.Refusal.{Refusal}
 use Rattle.record.specs.declared.Answer.{Answer}
 use Rattle.record.specs.declared.Answer.the-variants.{Refused}
 use Rattle.record.proofs.Fields.{fields-length}
-use Rattle.record.proofs.Placed.{sizes, part-is, part-length, at-sweep, at-check}
+use Rattle.record.proofs.Placed.{sizes, part-is, at-sweep, at-check}
 
 -- where a section starts
 abbrev atLamps : ℕ → ℕ

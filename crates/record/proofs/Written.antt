@@ -1,6 +1,6 @@
 -- Numbers and items, written and read, both ways.
 -- Assumes nothing.
-use Prim.Native.Nat.{ℕ, zero, suc, _+_, _*_, _/_, _%_, _≤_, zero-le}
+use Prim.Native.Nat.{ℕ, zero, suc, _+_, _*_, _/_, _%_, _≤_}
 use mathlib.Core.Path.{_≡_, refl, ap, _∙_}
 use mathlib.Core.List.{List, [], _∷_, _++_}
 use lib.ListN.{length, getD, take, drop, length-drop}
@@ -8,7 +8,7 @@ use lib.Seq.{drop-drop}
 use lib.Dec.{T, leb}
 use native.Mathlib.Nat.{div-add-mod', add-mul-mod-self-left, add-mul-div-left, suc-mul, zero-mul}
 use native.Mathlib.Omega.{arith}
-use mir.Facts.{and-yes, yes-and, leb-yes, yes-leb}
+use mir.Facts.{and-yes, yes-and, yes-leb}
 use Rattle.record.specs.Bytes.{word, long, fields, bytes16, bytes32}
 use Rattle.record.specs.Tests.{allUpTo}
 use Rattle.record.specs.Written.{run, runSweep}

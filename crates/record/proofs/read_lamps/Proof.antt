@@ -3,7 +3,7 @@ use Rattle.record.proofs.Fields.{fields-length, word-at}
 use Rattle.record.specs.Bytes.{fields, word}
 use mathlib.Core.Path.{_∙_}
 use native.Mathlib.Omega.{arith}
-use Prim.Native.Nat.{_*_, _-_, _≤_}
+use Prim.Native.Nat.{_-_, _≤_}
 use Rattle.record.proofs.read_lamps.Statement.{statement}
 use Rattle.record.proofs.read_lamps.Tie as tie
 use Rattle.record.proofs.read_lamps.Reads as reads
