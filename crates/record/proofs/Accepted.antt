@@ -1,15 +1,17 @@
 -- What an accepted record promises to the layers above.
 -- Assumes nothing.
-use Prim.Native.Nat.{ℕ, _*_, _≤_}
+use Prim.Native.Nat.{ℕ, _-_, _*_, _≤_}
 use mathlib.Core.Path.{_≡_, refl}
 use mathlib.Core.List.{List, [], _∷_}
 use mathlib.Core.Bool.{_&&_}
 use mathlib.Core.Logic.{⊎-elim}
 use lib.ListN.{length, getD}
-use lib.Dec.{T}
+use lib.Dec.{T, eqb}
 use native.Mathlib.Omega.{arith}
 use native.Mathlib.Nat.{suc-mul}
-use mir.Facts.{and-yes}
+use mir.Facts.{and-yes, eqb-yes}
+use Rattle.laws.specs.Rises.{risesBy}
+use Rattle.laws.proofs.Rises.{rises-at}
 use Rattle.laws.proofs.Cases.{by, yes-is, le-or-lt}
 use Rattle.record.specs.Sections.{permitted, lists, sections, layoutOf}
 use Rattle.record.specs.Tests.{meterOf, classOf, meterNumber, classNumber, settingsInRange, allUpTo, lampsInRange, spans, maxDdl, neverFalls, settingsOf, sum, jobOf, judged, answerOf}
@@ -73,6 +75,8 @@ module _ (s : List ℕ) (job : Job) (h : answerOf s ≡ Accepted job) where
   from-lists st la dd lu ch e l m n o =
       let p = passed st la dd lu job (simp e at h) in
       let r = ranges st (p .settings) in
+      let (front, top-last) = and-yes (eqb (getD dd 0 0) 0 && risesBy 1 dd) (eqb (getD dd (length dd - 1) 0) (maxDdl (getD st 0 0))) (p .ddls) in
+      let (zero-first, rising) = and-yes (eqb (getD dd 0 0) 0) (risesBy 1 dd) front in
       rw (p .is)
       (record {
         settings = rw e;
@@ -87,8 +91,10 @@ module _ (s : List ℕ) (job : Job) (h : answerOf s ≡ Accepted job) where
         readings = rw e m;
         pairs = rw e n;
         patches = rw e o;
-        ddls = rw e (p .ddls);
-        luminances = rw e (p .luminances);
+        first = rw e (eqb-yes zero-first);
+        last = rw e (eqb-yes top-last);
+        ddls-rise = rw e (λ i k. omega (arith, rises-at 1 dd rising i k));
+        luminances-keep = rw e (λ i k. omega (arith, rises-at 0 lu (p .luminances) i k));
       })
 
   from-layout : (l : Layout) → layoutOf s ≡ l → AcceptedJob s job

@@ -1,11 +1,11 @@
 -- What is known of an accepted record: for the layers that work on its job and its readings.
-use Prim.Native.Nat.{ℕ, _≤_}
+use Prim.Native.Nat.{ℕ, suc, _-_, _≤_, _<_}
 use mathlib.Core.List.{List}
 use mathlib.Core.Path.{_≡_}
 use lib.ListN.{length, getD}
 use lib.Dec.{T}
 use Rattle.record.specs.Sections.{permitted, sections, settingsIn, lampsIn, ddlsIn, luminancesIn, checkIn}
-use Rattle.record.specs.Tests.{meterNumber, classNumber, settingsOf, sum, spans, maxDdl, neverFalls}
+use Rattle.record.specs.Tests.{meterNumber, classNumber, settingsOf, sum, maxDdl}
 use Rattle.record.specs.declared.Section.the-variants.{Sweep, Check}
 use Rattle.record.specs.declared.Job.{Job}
 
@@ -25,5 +25,7 @@ pub record AcceptedJob (s : List ℕ) (job : Job) : Type 0 where
   pub readings : T (permitted Sweep (length (ddlsIn (sections s))))
   pub pairs : length (luminancesIn (sections s)) ≡ length (ddlsIn (sections s))
   pub patches : T (permitted Check (length (checkIn (sections s))))
-  pub ddls : T (spans (maxDdl (job .settings .depth)) (ddlsIn (sections s)))
-  pub luminances : T (neverFalls (luminancesIn (sections s)))
+  pub first : getD (ddlsIn (sections s)) 0 0 ≡ 0
+  pub last : getD (ddlsIn (sections s)) (length (ddlsIn (sections s)) - 1) 0 ≡ maxDdl (job .settings .depth)
+  pub ddls-rise : (i : ℕ) → suc i < length (ddlsIn (sections s)) → getD (ddlsIn (sections s)) i 0 < getD (ddlsIn (sections s)) (suc i) 0
+  pub luminances-keep : (i : ℕ) → suc i < length (luminancesIn (sections s)) → getD (luminancesIn (sections s)) i 0 ≤ getD (luminancesIn (sections s)) (suc i) 0

@@ -92,7 +92,9 @@ fn records() -> Vec<Vec<u8>> {
 /// A number to which each part of the values contributes.
 fn digest(values: &RecordValues) -> u32 {
     let last = values.readings - 1;
-    values.refusal + u32::from(values.lux) + u32::from(values.ddls[last]) + values.luminances[last] + values.check[values.patches - 1]
+    let job = [values.depth, values.meter, values.class, values.reflectance, values.tolerance, values.lux];
+    let job: u32 = (1..).zip(job).map(|(weight, value)| weight * u32::from(value)).sum();
+    values.refusal + job + u32::from(values.ddls[last]) + values.luminances[last] + values.check[values.patches - 1]
 }
 
 /// A small generator (xorshift) with a fixed seed, so that each run has the same inputs.

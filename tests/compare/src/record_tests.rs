@@ -137,8 +137,56 @@ fn sound_records() -> [Record; 6] {
     [sound(8, 0, 2, 0), sound(8, 8, 2, 0), sound(10, 3, 5, 18), sound(9, 8, 37, 18), sound(8, 0, 256, 0), sound(10, 8, 1024, 18)]
 }
 
+type Change = fn(&mut RecordValues);
+
+/// What is compared: each of these makes the values of a record those of another.
+const CHANGES: [Change; 21] = [
+    |values| values.refusal = 1,
+    |values| values.depth += 1,
+    |values| values.meter += 1,
+    |values| values.class += 1,
+    |values| values.reflectance += 1,
+    |values| values.tolerance += 1,
+    |values| values.lux += 1,
+    |values| values.given -= 1,
+    |values| values.settings[0] += 1,
+    |values| values.settings[4] += 1,
+    |values| values.sources -= 1,
+    |values| values.sources = 9,
+    |values| values.lamps[0] += 1,
+    |values| values.lamps[7] += 1,
+    |values| values.readings -= 1,
+    |values| values.readings = 1025,
+    |values| values.ddls[36] += 1,
+    |values| values.luminances[36] += 1,
+    |values| values.patches -= 1,
+    |values| values.check[0] -= 1,
+    |values| values.check[17] -= 1,
+];
+
+/// The comparison sees every change of the engine's values, and of the reference's.
+fn differences_are_seen() -> bool {
+    let mut all = Comparison::new("record: differences are seen");
+    let unseen = |seen: Option<String>| seen.map_or(Some("a difference is not seen".to_string()), |_| None);
+    let record = sound(9, 8, 37, 18);
+    let expected = Answer { number: 0, record: Some(record.clone()) };
+    let values = engine::read(&record.bytes());
+    for change in CHANGES {
+        let mut changed = values;
+        change(&mut changed);
+        all.count(unseen(engine_difference(&changed, &expected)));
+    }
+    let mut other = record.clone();
+    other.check[17] += 1;
+    for got in [Answer { number: 5, record: Some(record) }, Answer { number: 0, record: None }, Answer { number: 0, record: Some(other) }] {
+        all.count(unseen(reference_difference(&got, &expected)));
+    }
+    all.ended(24)
+}
+
 pub fn results() -> Vec<bool> {
-    let mut results = sections::results();
+    let mut results = vec![differences_are_seen()];
+    results.extend(sections::results());
     results.extend(values::results());
     results.extend(order::results());
     results.push(damaged::damaged_records());

@@ -104,7 +104,7 @@ fn after_sound_records(all: &mut Records) {
         }
         all.refused(&[record.bytes(), record.bytes()].concat(), 4);
         let mut bytes = record.bytes();
-        for length in [65_535, 65_536, 65_536 + bytes.len()] {
+        for length in [65_535, 65_536, 65_536 + bytes.len(), 131_072, 131_072 + bytes.len(), 1 << 20] {
             bytes.resize(length, 0);
             all.refused(&bytes, 4);
         }
@@ -127,7 +127,7 @@ fn bytes_after() -> bool {
     let mut all = Records::new("record: bytes after it");
     after_sound_records(&mut all);
     after_faulty_records(&mut all);
-    all.ended(6 * 3_004 + 20 * (1 + 3 + 328))
+    all.ended(6 * 3_007 + 20 * (1 + 3 + 328))
 }
 
 pub fn results() -> Vec<bool> {
