@@ -1,7 +1,7 @@
 -- What an accepted record promises to the layers above.
 -- Assumes nothing.
 use Prim.Native.Nat.{ℕ, _-_, _*_, _≤_}
-use mathlib.Core.Path.{_≡_, refl}
+use mathlib.Core.Path.{_≡_, refl, sym, _∙_}
 use mathlib.Core.List.{List, [], _∷_}
 use mathlib.Core.Bool.{_&&_}
 use mathlib.Core.Logic.{⊎-elim}
@@ -13,6 +13,7 @@ use mir.Facts.{and-yes, eqb-yes}
 use Rattle.laws.specs.Rises.{risesBy}
 use Rattle.laws.proofs.Rises.{rises-at}
 use Rattle.laws.proofs.Cases.{by, yes-is, le-or-lt}
+use Rattle.record.specs.Bytes.{word, long}
 use Rattle.record.specs.Sections.{permitted, lists, sections, layoutOf}
 use Rattle.record.specs.Tests.{meterOf, classOf, meterNumber, classNumber, settingsInRange, allUpTo, lampsInRange, spans, maxDdl, neverFalls, settingsOf, sum, jobOf, judged, answerOf}
 use Rattle.record.specs.Accepted.{AcceptedJob}
@@ -103,7 +104,7 @@ module _ (s : List ℕ) (job : Job) (h : answerOf s ≡ Accepted job) where
   from-layout (Complete a b c d) e =
       let p = placed s a b c d e in
       let z = sizes s a b c d e in
-      from-lists _ _ _ _ _ (lists-of s a b c d e) (rw fields-length (z .lamps)) (rw fields-length (yes-is (p .sweep .may))) (rw (fields-length, fields-length)) (rw fields-length (yes-is (p .check .may)))
+      from-lists _ _ _ _ _ (lists-of s a b c d e) (rw fields-length (z .lamps)) (rw fields-length (yes-is (p .sweep .may))) (fields-length 6 (long 2) c _ ∙ sym (fields-length 6 (word 0) c _)) (rw fields-length (yes-is (p .check .may)))
 
   pub accepted-job : AcceptedJob s job
   accepted-job = from-layout (layoutOf s) refl

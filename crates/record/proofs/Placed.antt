@@ -99,7 +99,7 @@ placed s a b c d h =
     let s₃ = rest Sweep (t₂ .n) s₂ in
     let t₃ = took (countOf Check s₃) (λ n. ended (t₀ .n) (t₁ .n) (t₂ .n) n (rest Check n s₃)) a b c d (t₂ .more) in
     let e = same (t₀ .n) (t₁ .n) (t₂ .n) (t₃ .n) a b c d (rest Check (t₃ .n) s₃) (t₃ .more) in
-    moved (e .one) (e .two) (e .three) (e .four)
+    moved {a = t₀ .n} {b = t₁ .n} {c = t₂ .n} {d = t₃ .n} (e .one) (e .two) (e .three) (e .four)
     (record {
       settings = counted Settings s (t₀ .n) (t₀ .is);
       lamps = counted Lamps s₁ (t₁ .n) (t₁ .is);
