@@ -1,1 +1,4 @@
 pub mod MarkedExamples
+pub mod Sound
+pub mod Nearest
+pub mod Preparing

@@ -1,13 +1,19 @@
--- Products that `omega` does not take apart, and functions that grow at every step.
+-- Products that `omega` does not take apart, functions that grow at every step, and the largest of some numbers.
 -- Assumes nothing.
 use mathlib.Core.Path.{_≡_}
-use Prim.Native.Nat.{ℕ, zero, suc, _+_, _-_, _*_, _≤_, _<_}
-use native.Mathlib.Nat.{mul-suc, mul-zero}
+use mathlib.Core.Logic.{⊎-elim}
+use Prim.Native.Nat.{ℕ, zero, suc, _+_, _-_, _*_, _/_, max, _≤_, _<_, zero-le}
+use native.Mathlib.Nat.{mul-suc, mul-zero, le-trans, le-div-iff-mul-le, div-mul-le-self, not-suc-le-zero, le-of-suc-le-suc, eq-or-lt-of-le}
 use native.Mathlib.Numerals.{add-one}
 use native.Mathlib.Omega.{arith}
+use Rattle.laws.specs.Numbers.{maxOf}
 
 pub times-next : (a n : ℕ) → a * (n + 1) ≡ a * n + a
 times-next a n = rw (add-one, mul-suc)
+
+-- a quotient never falls with what is divided
+pub quotient-mono : (a b k : ℕ) → 0 < k → a ≤ b → a / k ≤ b / k
+quotient-mono a b k pos h = le-div-iff-mul-le pos .1 (le-trans (div-mul-le-self a k) h)
 
 -- f grows by at least s at each step from lo to hi
 pub record Grows (f : ℕ → ℕ) (s lo hi : ℕ) : Type 0 where
@@ -29,3 +35,22 @@ module _ {f : ℕ → ℕ} {s lo hi : ℕ} (g : Grows f s lo hi) where
       let e : i + (k - i) ≡ k = omega arith in
       let u : f i ≤ f (i + (k - i)) = omega (arith, grows-by (k - i) i l (omega arith)) in
       rw e at u
+
+-- ---- the largest of f 0, f 1, .., f (n − 1)
+
+module _ (f : ℕ → ℕ) where
+  pub max-next : (n : ℕ) → maxOf f (n + 1) ≡ max (maxOf f n) (f n)
+  unfolding maxOf
+  max-next n = rw add-one
+
+  -- each is at most the largest
+  pub max-at : (n i : ℕ) → i < n → f i ≤ maxOf f n
+  unfolding maxOf
+  max-at zero i h = absurd (not-suc-le-zero h)
+  max-at (suc n) i h = ⊎-elim (λ e. rw e (omega arith)) (λ l. omega (arith, max-at n i l)) (eq-or-lt-of-le (le-of-suc-le-suc h))
+
+  -- and the largest is at most what all are at most
+  pub max-le : (n b : ℕ) → ((i : ℕ) → i < n → f i ≤ b) → maxOf f n ≤ b
+  unfolding maxOf
+  max-le zero b h = zero-le
+  max-le (suc n) b h = omega (arith, max-le n b (λ i l. h i (omega arith)), h n (omega arith))

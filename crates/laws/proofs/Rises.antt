@@ -3,13 +3,15 @@
 use mathlib.Core.Path.{_≡_, sym, ap, _∙_}
 use mathlib.Core.Bool.{true, false}
 use mathlib.Core.List.{List, [], _∷_}
-use Prim.Native.Nat.{ℕ, zero, suc, _+_, _≤_, _<_}
+use Prim.Native.Nat.{ℕ, zero, suc, _+_, _-_, _≤_, _<_, zero-le}
+use native.Mathlib.Omega.{arith}
 use native.Mathlib.Nat.{le-of-suc-le-suc, not-suc-le-zero}
 use borrow.Author.Tests.{le-leb, lt-leb}
 use lib.Dec.{T, leb, leb→le}
 use lib.ListN.{length, getD, drop}
 use mir.Facts.{and-yes}
-use Rattle.laws.specs.Rises.{risesFrom, risesBy}
+use Rattle.laws.specs.Rises.{risesFrom, risesBy, NeverFalls}
+use Rattle.laws.proofs.Numbers.{Grows, never-falls}
 
 from-at : (s x : ℕ) (ys : List ℕ) → T (risesFrom s x ys) → (i : ℕ) → i < length ys → getD (x ∷ ys) i 0 + s ≤ getD ys i 0
 unfolding risesFrom
@@ -22,6 +24,13 @@ pub rises-at : (s : ℕ) (xs : List ℕ) → T (risesBy s xs) → (i : ℕ) → 
 unfolding risesBy
 rises-at s [] t i h = absurd (not-suc-le-zero h)
 rises-at s (x ∷ xs) t i h = from-at s x xs t i (le-of-suc-le-suc h)
+
+-- where no element is below the one before it, none is below an earlier one
+pub keeps-by-steps : (xs : List ℕ) → ((i : ℕ) → i + 1 < length xs → getD xs i 0 ≤ getD xs (i + 1) 0) → NeverFalls xs
+keeps-by-steps xs h = record { keeps = λ i k ik l. never-falls grows i k zero-le ik (omega arith) }
+  where
+    grows : Grows (λ i. getD xs i 0) 0 0 (length xs - 1)
+    grows = record { step = λ k a b. omega (arith, h k (omega arith)) }
 
 -- ---- the test, one entry at a time, as a loop makes it
 

@@ -1,15 +1,15 @@
 -- What bounded search finds.
 -- Assumes nothing.
 use Prim.Native.Nat.{ℕ, zero, suc, _+_, _-_, _≤_, _<_, zero-le, suc-le-suc}
-use mathlib.Core.Path.{_≡_, subst}
-use mathlib.Core.Bool.{Bool}
+use mathlib.Core.Path.{_≡_, refl, subst}
+use mathlib.Core.Bool.{Bool, false}
 use mathlib.Core.Logic.{inl, inr, ⊎-elim}
 use native.Mathlib.Nat.{le-refl, le-of-suc-le-suc, not-suc-le-zero, eq-or-lt-of-le}
 use native.Mathlib.Omega.{arith}
 use lib.Dec.{T}
-use mir.Facts.{T-not, or-yes}
+use mir.Facts.{T-not, not-T, or-yes}
 use Rattle.laws.specs.Search.{any, lowest, largestOf, largest}
-use Rattle.laws.proofs.Cases.{chosen, yes-or}
+use Rattle.laws.proofs.Cases.{is-no, chosen, yes-or}
 
 -- ---- upward
 
@@ -18,6 +18,13 @@ unfolding any
 any-intro p zero i h t = absurd (not-suc-le-zero h)
 any-intro p (suc n) zero h t = yes-or (p zero) _ (inl t)
 any-intro p (suc n) (suc i) h t = yes-or (p zero) _ (inr (any-intro (λ i. p (suc i)) n i (le-of-suc-le-suc h) t))
+
+-- where no number passes, none is found
+pub any-none : (p : ℕ → Bool) (n : ℕ) → ((i : ℕ) → i < n → T (p i) → ⊥) → any p n ≡ false
+unfolding any
+any-none p zero h = refl
+any-none p (suc n) h =
+    rw (is-no (p zero) (not-T (p zero) (h zero (omega arith))), any-none (λ i. p (suc i)) n (λ i l. h (suc i) (suc-le-suc l))) refl
 
 -- where some number passes, the lowest does
 pub lowest-passes : (p : ℕ → Bool) (n : ℕ) → T (any p n) → T (p (lowest p n))

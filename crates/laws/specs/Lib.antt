@@ -1,3 +1,4 @@
 pub mod Search
+pub mod Numbers
 pub mod Fill
 pub mod Rises

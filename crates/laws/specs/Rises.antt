@@ -1,8 +1,9 @@
 -- Lists that rise.
-use Prim.Native.Nat.{ℕ, _+_}
+use Prim.Native.Nat.{ℕ, _+_, _≤_, _<_}
 use mathlib.Core.Bool.{Bool, true, _&&_}
 use mathlib.Core.List.{List, [], _∷_}
 use lib.Dec.{leb}
+use lib.ListN.{length, getD}
 
 -- x and then each entry of the list is at least s below the one after it
 unfoldable pub risesFrom : ℕ → ℕ → List ℕ → Bool
@@ -13,3 +14,7 @@ risesFrom s x (y ∷ ys) = leb (x + s) y && risesFrom s y ys
 unfoldable pub risesBy : ℕ → List ℕ → Bool
 risesBy s [] = true
 risesBy s (x ∷ xs) = risesFrom s x xs
+
+-- no element is below an earlier one
+pub record NeverFalls (xs : List ℕ) : Type 0 where
+  pub keeps : (i k : ℕ) → i ≤ k → k < length xs → getD xs i 0 ≤ getD xs k 0

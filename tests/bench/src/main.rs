@@ -9,53 +9,19 @@ use std::time::Instant;
 
 use compare::gsdf::{raw, Table};
 use compare::record::{self, RecordValues};
+use compare::yepidlaw::{self, Nearest};
 use reference::record::Record;
 
+mod gsdf_in_rust;
+mod nearest_in_rust;
 mod record_in_rust;
-
-/// The methods of crate `gsdf`, written in Rust.
-mod rust {
-    fn jnd_luminance(table: &[u32; 1023], j: u32) -> u32 {
-        table[(j - 1) as usize]
-    }
-
-    #[inline(never)]
-    pub extern "C" fn luminance_in(table: &[u32; 1023], k: u32) -> u32 {
-        let j = k / 100;
-        let hundredths = k % 100;
-        let low = jnd_luminance(table, j);
-        if hundredths == 0 {
-            return low;
-        }
-        let difference = jnd_luminance(table, j + 1) - low;
-        low + difference * hundredths / 100
-    }
-
-    #[inline(never)]
-    pub extern "C" fn index_in(table: &[u32; 1023], l: u32) -> u32 {
-        let mut j = 1;
-        let mut width = 1023;
-        while 1 < width {
-            let half = width / 2;
-            if jnd_luminance(table, j + half) <= l {
-                j += half;
-            }
-            width -= half;
-        }
-        if j == 1023 {
-            return 102_300;
-        }
-        let low = jnd_luminance(table, j);
-        let difference = jnd_luminance(table, j + 1) - low;
-        100 * j + (100 * (l - low) + 99) / difference
-    }
-}
 
 #[derive(Clone, Copy)]
 enum Function {
     Luminance,
     Index,
     Record,
+    Nearest,
 }
 
 #[derive(Clone, Copy, PartialEq)]
@@ -64,7 +30,7 @@ enum Side {
     Rust,
 }
 
-/// The inputs of `Function::Record` are places in the list of records.
+/// The inputs of `Function::Record` and `Function::Nearest` are places in the list of records.
 struct Case {
     name: &'static str,
     function: Function,
@@ -77,7 +43,7 @@ struct Material {
     records: Vec<Vec<u8>>,
 }
 
-/// Sound records of depth 10 with 8 lamps and a check: two readings, 64 and 1,024.
+/// Records of depth 10 with 8 lamps and a check: two readings, 64 and 1,024. Then the jobs.
 fn records() -> Vec<Vec<u8>> {
     let record = |readings: u64| Record {
         settings: vec![10, 0, 1, 60, 100],
@@ -86,7 +52,17 @@ fn records() -> Vec<Vec<u8>> {
         luminances: (0..readings).map(|i| 1_000 + 3_000 * i).collect(),
         check: (0..18).map(|i| 10_000 + 1_000 * i).collect(),
     };
-    [2, 64, 1024].iter().map(|&readings| record(readings).bytes()).collect()
+    [2, 64, 1024].map(record).iter().chain(&jobs()).map(Record::bytes).collect()
+}
+
+/// Sound jobs: two readings at depth 8, 64 with lamps at depth 10, 1,024 with a check. The readings rise with the square of the level.
+fn jobs() -> [Record; 3] {
+    let job = |depth: u64, lamps: &[u64], readings: u64, check: &[u64]| {
+        let ddls: Vec<u64> = (0..readings).map(|i| ((1 << depth) - 1) * i / (readings - 1)).collect();
+        let luminances = ddls.iter().map(|ddl| 5_000 + 3_500_000 * ddl * ddl / (1 << (2 * depth))).collect();
+        Record { settings: vec![depth, 0, 1, 60, 100], lamps: lamps.to_vec(), ddls, luminances, check: check.to_vec() }
+    };
+    [job(8, &[], 2, &[]), job(10, &[10, 20, 30, 40, 50, 60, 70, 80], 64, &[]), job(10, &[], 1024, &[5_000; 18])]
 }
 
 /// A number to which each part of the values contributes.
@@ -95,6 +71,13 @@ fn digest(values: &RecordValues) -> u32 {
     let job = [values.depth, values.meter, values.class, values.reflectance, values.tolerance, values.lux];
     let job: u32 = (1..).zip(job).map(|(weight, value)| weight * u32::from(value)).sum();
     values.refusal + job + u32::from(values.ddls[last]) + values.luminances[last] + values.check[values.patches - 1]
+}
+
+/// The same for a nearest table; `check` compares every entry.
+fn digest_of_table(result: &Nearest, table: &[u16; 256]) -> u32 {
+    let numbers = [result.refusal, result.jlo, result.jhi, result.range, result.room_high, result.error];
+    let numbers: u32 = (1..).zip(numbers).map(|(weight, value)| weight * value).sum();
+    numbers + u32::from(table[0]) + u32::from(table[128]) + u32::from(table[255])
 }
 
 /// A small generator (xorshift) with a fixed seed, so that each run has the same inputs.
@@ -126,6 +109,9 @@ fn cases() -> Vec<Case> {
         Case { name: "record-2", function: Function::Record, inputs: vec![0; 1_000] },
         Case { name: "record-64", function: Function::Record, inputs: vec![1; 1_000] },
         Case { name: "record-1024", function: Function::Record, inputs: vec![2; 1_000] },
+        Case { name: "nearest-2", function: Function::Nearest, inputs: vec![3; 1_000] },
+        Case { name: "nearest-64", function: Function::Nearest, inputs: vec![4; 1_000] },
+        Case { name: "nearest-1024", function: Function::Nearest, inputs: vec![5; 1_000] },
     ]
 }
 
@@ -135,13 +121,22 @@ fn each(case: &Case, side: Side, material: &Material, mut take: impl FnMut(u32))
     let entries = material.table.entries();
     let bytes = |&place: &u32| &material.records[place as usize][..];
     let inputs = case.inputs.iter();
+    let mut lent = [0; 256];
     match (case.function, side) {
         (Function::Luminance, Side::Engine) => inputs.for_each(|&k| take(unsafe { raw::gsdf_luminance_in(entries.as_ptr(), k) })),
-        (Function::Luminance, Side::Rust) => inputs.for_each(|&k| take(rust::luminance_in(entries, k))),
+        (Function::Luminance, Side::Rust) => inputs.for_each(|&k| take(gsdf_in_rust::luminance_in(entries, k))),
         (Function::Index, Side::Engine) => inputs.for_each(|&l| take(unsafe { raw::gsdf_index_in(entries.as_ptr(), l) })),
-        (Function::Index, Side::Rust) => inputs.for_each(|&l| take(rust::index_in(entries, l))),
+        (Function::Index, Side::Rust) => inputs.for_each(|&l| take(gsdf_in_rust::index_in(entries, l))),
         (Function::Record, Side::Engine) => inputs.for_each(|place| take(digest(&record::read(bytes(place))))),
         (Function::Record, Side::Rust) => inputs.for_each(|place| take(digest(&record_in_rust::read(bytes(place))))),
+        (Function::Nearest, Side::Engine) => inputs.for_each(|place| {
+            let result = yepidlaw::nearest(bytes(place), &mut lent);
+            take(digest_of_table(&result, &lent));
+        }),
+        (Function::Nearest, Side::Rust) => inputs.for_each(|place| {
+            let result = nearest_in_rust::nearest(entries, bytes(place), &mut lent);
+            take(digest_of_table(&result, &lent));
+        }),
     }
 }
 
@@ -154,14 +149,28 @@ fn measured_pass(case: &Case, side: Side, material: &Material) -> u64 {
     sum
 }
 
+/// Whether the two sides give the same nearest table for a record, in every entry.
+fn same_table(bytes: &[u8], material: &Material) -> bool {
+    let mut of_engine = [1; 256];
+    let mut of_rust = [2; 256];
+    let engine = yepidlaw::nearest(bytes, &mut of_engine);
+    let rust = nearest_in_rust::nearest(material.table.entries(), bytes, &mut of_rust);
+    engine == rust && engine.refusal == 0 && of_engine == of_rust
+}
+
 /// Compares the results of the two sides for every case; whether all are equal.
 fn check(cases: &[Case], material: &Material) -> bool {
-    let results = |case, side| {
+    let results = |case: &Case, side| {
         let mut all = Vec::new();
         each(case, side, material, |result| all.push(result));
         all
     };
-    let passed = cases.iter().filter(|case| results(case, Side::Engine) == results(case, Side::Rust)).count();
+    let same_tables = |case: &Case| match case.function {
+        Function::Nearest => case.inputs.iter().all(|&place| same_table(&material.records[place as usize], material)),
+        _ => true,
+    };
+    let same = |case: &Case| results(case, Side::Engine) == results(case, Side::Rust) && same_tables(case);
+    let passed = cases.iter().filter(|case| same(case)).count();
     println!("{} passed, {} failed", passed, cases.len() - passed);
     passed == cases.len()
 }

@@ -42,3 +42,18 @@ impl Comparison {
         self.wrong == 0 && self.seen == expected
     }
 }
+
+/// The first place where two lists differ.
+pub fn field<T: Copy + Into<u64>>(name: &str, got: &[T], expected: &[u64]) -> Option<String> {
+    let got: Vec<u64> = got.iter().map(|&value| value.into()).collect();
+    if got == expected {
+        return None;
+    }
+    let place = (0..).find(|&place| got.get(place) != expected.get(place))?;
+    Some(format!("{name}, place {place}: got {:?}, expected {:?}", got.get(place), expected.get(place)))
+}
+
+/// As many bytes as can be looked at.
+pub fn start(bytes: &[u8]) -> &[u8] {
+    &bytes[..bytes.len().min(64)]
+}

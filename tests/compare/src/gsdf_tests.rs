@@ -41,14 +41,17 @@ fn indices(reference: &Gsdf, table: &gsdf::Table) -> [bool; 2] {
 }
 
 /// The same by the reference's full scan, at each entry of the table, at its neighbours and between.
-fn scanned_indices(reference: &Gsdf) -> bool {
-    let mut scanned = Comparison::new("index of a luminance, scanned");
+fn scanned_indices(reference: &Gsdf) -> [bool; 2] {
+    let mut engine = Comparison::new("index of a luminance, scanned");
+    let mut other = Comparison::new("index of a luminance, scanned and halved in the reference");
     for pair in reference.entries().windows(2) {
         for l in [pair[0], pair[0] + 1, (pair[0] + pair[1]) / 2, pair[1] - 1, pair[1]] {
-            scanned.equal(l, gsdf::index_of(l as u32), reference.index(l));
+            let expected = reference.scanned_index(l);
+            engine.equal(l, gsdf::index_of(l as u32), expected);
+            other.equal(l, reference.index(l) as u32, expected);
         }
     }
-    scanned.ended(5 * 1022)
+    [engine.ended(5 * 1022), other.ended(5 * 1022)]
 }
 
 /// The marked examples of J and G, engine and reference against the document.
@@ -64,13 +67,12 @@ fn marked_examples(reference: &Gsdf) -> [bool; 2] {
     [engine.ended(6), other.ended(6)]
 }
 
-pub fn results() -> Vec<bool> {
-    let reference = Gsdf::from_data_file();
+pub fn results(reference: &Gsdf) -> Vec<bool> {
     let table = gsdf::Table::of_engine();
-    let mut results = vec![entries(&reference, &table)];
-    results.extend(luminances(&reference, &table));
-    results.extend(indices(&reference, &table));
-    results.push(scanned_indices(&reference));
-    results.extend(marked_examples(&reference));
+    let mut results = vec![entries(reference, &table)];
+    results.extend(luminances(reference, &table));
+    results.extend(indices(reference, &table));
+    results.extend(scanned_indices(reference));
+    results.extend(marked_examples(reference));
     results
 }

@@ -1,3 +1,4 @@
 //! The engine through its C ABI, each function behind a safe one that tests what its contract asks.
 pub mod gsdf;
 pub mod record;
+pub mod yepidlaw;

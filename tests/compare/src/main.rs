@@ -1,11 +1,39 @@
 //! Compares the engine with the reference by running both, and ends with 'N passed, M failed'.
+//!
+//!   compare                   everything, with the jobs of the gate
+//!   compare COUNT [SEED]      so many drawn jobs alone
+
+use reference::engine::Engine;
+
 mod comparison;
 mod gsdf_tests;
+mod jobs;
+mod nearest_tests;
+mod random;
 mod record_tests;
+mod tally;
+
+use nearest_tests::{generated_results, SEED};
+
+fn everything(reference: &Engine) -> Vec<bool> {
+    let mut results = gsdf_tests::results(&reference.gsdf);
+    results.extend(record_tests::results());
+    results.extend(nearest_tests::results(reference));
+    results
+}
 
 fn main() {
-    let mut results = gsdf_tests::results();
-    results.extend(record_tests::results());
+    let reference = Engine::from_data_file();
+    let numbers: Result<Vec<u64>, _> = std::env::args().skip(1).map(|word| word.parse()).collect();
+    let results = match numbers.as_deref() {
+        Ok([]) => everything(&reference),
+        Ok([count]) => generated_results(&reference, *count, SEED),
+        Ok([count, seed]) => generated_results(&reference, *count, *seed),
+        _ => {
+            eprintln!("usage: compare [COUNT [SEED]]");
+            std::process::exit(2);
+        }
+    };
     let passed = results.iter().filter(|&&ok| ok).count();
     println!("{} passed, {} failed", passed, results.len() - passed);
     if passed < results.len() {

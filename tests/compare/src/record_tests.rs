@@ -1,13 +1,13 @@
 //! The job record, engine against reference, and both against what document 01 says where it says it outright.
 mod damaged;
-mod order;
+pub mod order;
 mod sections;
 mod values;
 
 use compare::record::{self as engine, RecordValues};
 use reference::record::{self, Record};
 
-use crate::comparison::Comparison;
+use crate::comparison::{field, start, Comparison};
 
 /// What reading gives: the number, 0 for an accepted record, and the record where the tests 2 to 4 pass.
 #[derive(Debug, PartialEq)]
@@ -58,15 +58,6 @@ fn reference_difference(got: &Answer, expected: &Answer) -> Option<String> {
     number.or_else(|| (got != expected).then(|| "what was read".to_string()))
 }
 
-fn field<T: Copy + Into<u64>>(name: &str, got: &[T], expected: &[u64]) -> Option<String> {
-    let got: Vec<u64> = got.iter().map(|&value| value.into()).collect();
-    if got == expected {
-        return None;
-    }
-    let place = (0..).find(|&place| got.get(place) != expected.get(place))?;
-    Some(format!("{name}, place {place}: got {:?}, expected {:?}", got.get(place), expected.get(place)))
-}
-
 /// Comparisons of records; each input counts as one, with all its values.
 struct Records(Comparison);
 
@@ -109,11 +100,6 @@ impl Records {
     fn ended(self, expected: u64) -> bool {
         self.0.ended(expected)
     }
-}
-
-/// As many bytes as can be looked at.
-fn start(bytes: &[u8]) -> &[u8] {
-    &bytes[..bytes.len().min(64)]
 }
 
 /// The largest DDL, M.

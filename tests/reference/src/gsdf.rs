@@ -41,15 +41,32 @@ impl Gsdf {
         &self.table[1..]
     }
 
+    /// T(1).
+    pub fn darkest(&self) -> u64 {
+        self.table[1]
+    }
+
+    /// T(1023).
+    pub fn brightest(&self) -> u64 {
+        self.table[1023]
+    }
+
     /// G(k).
     pub fn luminance(&self, k: u64) -> u64 {
         assert!(k >= FIRST_INDEX);
         self.luminances[k as usize]
     }
 
-    /// J(l), by looking at every index from the last down.
+    /// J(l), by halving all indices: G never falls.
     pub fn index(&self, l: u64) -> u64 {
-        assert!(self.table[1] <= l && l <= self.table[1023]);
+        assert!(self.darkest() <= l && l <= self.brightest());
+        let luminances = &self.luminances[FIRST_INDEX as usize..];
+        FIRST_INDEX - 1 + luminances.partition_point(|&luminance| luminance <= l) as u64
+    }
+
+    /// J(l), by looking at every index from the last down.
+    pub fn scanned_index(&self, l: u64) -> u64 {
+        assert!(self.darkest() <= l && l <= self.brightest());
         (FIRST_INDEX..=LAST_INDEX).rev().find(|&k| self.luminance(k) <= l).expect("G(100) is at most l")
     }
 }

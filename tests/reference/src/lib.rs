@@ -1,3 +1,7 @@
 //! The rules of the calibration in another language and by other methods than the engine's: full scans, and no arithmetic narrower than 64 bits.
+pub mod curve;
+pub mod engine;
 pub mod gsdf;
+pub mod nearest;
 pub mod record;
+pub mod target;

@@ -78,8 +78,7 @@ pub fn judge(record: &Record) -> Result<(), u32> {
     let mut ddls = record.ddls.clone();
     ddls.sort_unstable();
     ddls.dedup();
-    let last = 2u64.pow(record.settings[0] as u32) - 1;
-    if ddls != record.ddls || ddls[0] != 0 || ddls[ddls.len() - 1] != last {
+    if ddls != record.ddls || ddls[0] != 0 || ddls[ddls.len() - 1] != record.last_ddl() {
         return Err(6);
     }
     let mut luminances = record.luminances.clone();
@@ -99,6 +98,25 @@ fn put(bytes: &mut Vec<u8>, value: u64, width: u32) {
 }
 
 impl Record {
+    pub fn depth(&self) -> u64 {
+        self.settings[0]
+    }
+
+    /// 0 contact, 1 telescopic.
+    pub fn meter(&self) -> u64 {
+        self.settings[1]
+    }
+
+    /// Rd.
+    pub fn reflectance(&self) -> u64 {
+        self.settings[3]
+    }
+
+    /// M of a depth in range.
+    pub fn last_ddl(&self) -> u64 {
+        2u64.pow(self.depth() as u32) - 1
+    }
+
     /// The record as it is written, each section after the number of its items, permitted or not.
     pub fn bytes(&self) -> Vec<u8> {
         assert_eq!(self.ddls.len(), self.luminances.len(), "a sweep reading has both");

@@ -2,9 +2,9 @@
 use compare::record as engine;
 use reference::record::Record;
 
-use super::sections::{count_places, set_count};
 use super::{engine_difference, reference_difference, sound, Answer, Records};
 use crate::comparison::Comparison;
+use crate::jobs::damage::{count_places, set_count};
 
 type Fault = fn(&mut Record);
 
@@ -171,6 +171,11 @@ fn examples() -> Vec<(&'static str, Vec<u8>, Answer)> {
         ("12", checked([0, 0, 0, 0]), answer(0, read_as(&[], sweep, &[0; 18]))),
         ("13", checked([0x10, 0x27, 0, 0]), answer(0, read_as(&[], sweep, &[10_000; 18]))),
     ]
+}
+
+/// The name of each example, with its bytes.
+pub fn example_records() -> Vec<(&'static str, Vec<u8>)> {
+    examples().into_iter().map(|(name, bytes, _)| (name, bytes)).collect()
 }
 
 /// Engine and reference against the document.

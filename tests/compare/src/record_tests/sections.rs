@@ -3,18 +3,7 @@ use reference::record::Record;
 
 use super::order::faulty_records;
 use super::{sound, sound_records, Records};
-
-/// Where each section's count stands.
-pub fn count_places(record: &Record) -> [usize; 4] {
-    let lamps = 2 + 2 * record.settings.len();
-    let sweep = lamps + 2 + 2 * record.lamps.len();
-    let check = sweep + 2 + 6 * record.ddls.len();
-    [0, lamps, sweep, check]
-}
-
-pub fn set_count(bytes: &mut [u8], place: usize, count: u16) {
-    bytes[place..place + 2].copy_from_slice(&count.to_le_bytes());
-}
+use crate::jobs::damage::{count_places, set_count};
 
 fn is_permitted(section: usize, count: u16) -> bool {
     match section {

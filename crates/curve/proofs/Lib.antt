@@ -1,0 +1,5 @@
+-- `Room`: the light of the room. `Interpolation`: the value between two readings. `Laws`: the curve of a sweep. `Walk`: the curve, level by level.
+pub mod Room
+pub mod Interpolation
+pub mod Laws
+pub mod Walk

@@ -1,0 +1,80 @@
+-- What is known of every sound job.
+-- Assumes nothing.
+use mathlib.Core.Path.{_≡_, refl, sym, subst, _∙_}
+use mathlib.Core.List.{List}
+use Prim.Native.Nat.{ℕ, _+_, _-_, _≤_, _<_}
+use native.Mathlib.Nat.{le-trans}
+use native.Mathlib.Omega.{arith}
+use lib.ListN.{length, getD}
+use Rattle.record.specs.Sections.{sections, ddlsIn, luminancesIn}
+use Rattle.record.specs.Tests.{answerOf}
+use Rattle.record.specs.Accepted.{AcceptedJob}
+use Rattle.record.specs.declared.Refusal.{Refusal}
+use Rattle.record.specs.declared.Job.{Job}
+use Rattle.record.specs.declared.Answer.{Answer}
+use Rattle.record.specs.declared.Answer.the-variants.{Accepted, Refused}
+use Rattle.record.proofs.Accepted.{accepted-job}
+use Rattle.curve.specs.Curve.{Sweep}
+use Rattle.curve.proofs.Laws as curve
+use Rattle.target.specs.Target.{targetAt, Aims}
+use Rattle.target.specs.declared.IndexRange.{IndexRange}
+use Rattle.target.proofs.Laws as target
+use Rattle.engine.specs.Sound.{SoundJob, Soundness, sound, unsound, IsSound, roomOf, addedOf, topOf, rangeTests, displayed, afterReading, soundness}
+use Rattle.engine.specs.declared.Ranged.{Ranged}
+use Rattle.engine.specs.declared.Ranged.the-variants.{Wide, Fault}
+use Rattle.engine.proofs.Measuring.{top-low, top-high, Passed, through, turned, made, kept, aims}
+use Rattle.engine.proofs.Reading.{sweep-of}
+use Rattle.gsdf.specs.Table.{tableB1}
+
+never : {r : Refusal} {job : SoundJob} → unsound r ≡ sound job → ⊥
+never e = let z : _≡_ {A = ℕ} 0 1 = cc in omega arith
+
+module _ {ddls luminances : List ℕ} {top : ℕ} (s : Sweep ddls luminances top) (low : 255 ≤ top) (high : top ≤ 1023) (added room : ℕ) where
+  module _ (indices : IndexRange) (e : rangeTests (added + getD luminances 0 0) (added + getD luminances (length luminances - 1) 0) ≡ Wide indices) where
+    made-sound : IsSound (made s added room indices e)
+    made-sound =
+        let a : Aims tableB1 (indices .low .0) (indices .range .0) 255 = aims s added room indices e tableB1 refl in
+        let p : Passed (added + getD luminances 0 0) (added + getD luminances (length luminances - 1) 0) indices = through s added room indices e in
+        let n : length luminances ≡ length ddls = s .pairs in
+        let lc = curve.curve-length s added in
+        record {
+          levels-low = rw lc (omega arith);
+          levels-high = rw lc (omega arith);
+          curve-keeps = curve.curve-keeps s added;
+          values = target.targets-length (indices .low .0) (indices .range .0) 255;
+          targets-rise = λ i k h l.
+              rw (target.targets-at (indices .low .0) (indices .range .0) 255 i 0 (omega arith), target.targets-at (indices .low .0) (indices .range .0) 255 k 0 (omega arith))
+              (target.target-rises (indices .low .0) (indices .range .0) 255 (a .first) (a .last) (a .some) (p .wide) (a .most) i k h (omega arith));
+          curve-low = λ d h.
+              let k : d ≤ top = omega (arith, lc) in
+              rw (curve.curve-level s added d 0 k) (le-trans (p .low) (curve.curve-low s added d k));
+          curve-high = λ d h.
+              let k : d ≤ top = omega (arith, lc) in
+              rw (curve.curve-level s added d 0 k) (le-trans (curve.curve-high s added d k) (rw n at (p .high)));
+          targets-low = λ i h.
+              rw (target.targets-at (indices .low .0) (indices .range .0) 255 i 0 (omega arith)) (target.target-low (indices .low .0) (indices .range .0) 255 (a .first) (a .last) (a .some) i (omega arith));
+          targets-high = λ i h.
+              rw (target.targets-at (indices .low .0) (indices .range .0) 255 i 0 (omega arith)) (target.target-high (indices .low .0) (indices .range .0) 255 (a .first) (a .last) (a .some) i (omega arith));
+        }
+
+  display-sound : (job : SoundJob) → displayed room added top ddls luminances ≡ sound job → IsSound job
+  display-sound job e = go (rangeTests (added + getD luminances 0 0) (added + getD luminances (length luminances - 1) 0)) refl
+    where
+      go : (x : Ranged) → rangeTests (added + getD luminances 0 0) (added + getD luminances (length luminances - 1) 0) ≡ x → IsSound job
+      go (Fault r) t = absurd (never (sym (turned s added room r t) ∙ e))
+      go (Wide indices) t =
+          let f : sound (made s added room indices t) ≡ sound job = sym (kept s added room indices t) ∙ e in
+          let same : made s added room indices t ≡ job = cc in
+          subst IsSound same (made-sound indices t)
+
+-- the job of every record that is sound
+pub sound-job : (bytes : List ℕ) (job : SoundJob) → soundness bytes ≡ sound job → IsSound job
+unfolding soundness
+sound-job bytes job e = go (answerOf bytes) refl
+  where
+    go : (x : Answer) → answerOf bytes ≡ x → IsSound job
+    go (Refused r) t = absurd (never (rw t at e))
+    go (Accepted j) t =
+        let a : AcceptedJob bytes j = accepted-job bytes j t in
+        let f : displayed (roomOf j) (addedOf j) (topOf j) (ddlsIn (sections bytes)) (luminancesIn (sections bytes)) ≡ sound job = rw t at e in
+        display-sound (sweep-of a) (top-low (j .settings .depth) (a .depth-low) (a .depth-high)) (top-high (j .settings .depth) (a .depth-low) (a .depth-high)) (addedOf j) (roomOf j) job f

@@ -1,0 +1,43 @@
+-- What the part of the operations up to test 10 asks and promises.
+use Prim.Native.Nat.{ℕ, _≤_}
+use mathlib.Core.Path.{_≡_}
+use mathlib.Core.List.{List, [], _++_}
+use lib.ListN.{length, take, drop}
+use Rattle.record.specs.declared.Job.{Job}
+use Rattle.curve.specs.Curve.{Sweep}
+use Rattle.engine.specs.Sound.{Soundness, sound, unsound, topOf}
+use Rattle.engine.specs.declared.Frame.{Frame}
+use Rattle.engine.specs.declared.Prepared.{Prepared}
+use Rattle.engine.specs.declared.Prepared.the-variants.{Ready, Turned}
+
+-- the curve and the targets of a sound job
+abbrev pub curveIn : Soundness → List ℕ
+curveIn (sound job) = job .curve
+curveIn (unsound r) = []
+
+abbrev pub targetsIn : Soundness → List ℕ
+targetsIn (sound job) = job .targets
+targetsIn (unsound r) = []
+
+abbrev pub preparedOf : Soundness → Prepared
+preparedOf (sound job) = Ready (record { levels = length (job .curve); indices = job .indices; room = job .room })
+preparedOf (unsound r) = Turned r
+
+-- two arrays that are long enough
+pub record Roomy (curve targets : List ℕ) : Type 0 where
+  pub levels : length curve ≡ 1024
+  pub values : length targets ≡ 256
+
+-- a job whose depth is in range, and the first n readings of its sweep
+pub record Measurable (job : Job) (ddls luminances : List ℕ) (n : ℕ) : Type 0 where
+  pub depth-low : 8 ≤ job .settings .depth
+  pub depth-high : job .settings .depth ≤ 10
+  pub ddls-fit : n ≤ length ddls
+  pub luminances-fit : n ≤ length luminances
+  pub sweep : Sweep (take n ddls) (take n luminances) (topOf job)
+
+-- the answer, and curve and targets at the front of the arrays; a job that is sent back changes nothing in them
+pub record Prepares (x : Soundness) (r : Prepared) (curve₀ curve₁ targets₀ targets₁ : List ℕ) : Type 0 where
+  pub answers : r ≡ preparedOf x
+  pub curve : curve₁ ≡ curveIn x ++ drop (length (curveIn x)) curve₀
+  pub targets : targets₁ ≡ targetsIn x ++ drop (length (targetsIn x)) targets₀

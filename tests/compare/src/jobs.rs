@@ -1,0 +1,66 @@
+//! Job records of every kind, drawn from a seeded generator.
+pub mod damage;
+mod ends;
+mod panels;
+
+use reference::gsdf::Gsdf;
+use reference::record::Record;
+
+use crate::random::Random;
+pub use panels::{Shape, SHAPES};
+
+/// A job record, with the shape of its sweep where it was made from one and not damaged.
+pub struct Job {
+    pub bytes: Vec<u8>,
+    pub shape: Option<Shape>,
+}
+
+/// No lamp to eight, dim or bright, in a room with little reflection or any.
+fn room(random: &mut Random, record: &mut Record) {
+    let brightest = random.one_of(&[0, 20, 100, 2_000]);
+    record.lamps = (0..random.below(9)).map(|_| random.below(brightest + 1)).collect();
+    record.settings[3] = match random.below(4) {
+        0 => random.one_of(&[0, 1, 60, 1_000]),
+        1 => random.below(1_001),
+        _ => random.below(101),
+    };
+}
+
+/// A record without damage: sound, or refused for what it holds under 8, 9 or 10.
+fn undamaged(random: &mut Random, gsdf: &Gsdf) -> (Record, Shape) {
+    let depth = random.between(8, 10);
+    let any_tolerance = random.below(1_001);
+    let tolerance = random.one_of(&[0, 50, 1_000, any_tolerance]);
+    let mut record = Record {
+        settings: vec![depth, random.below(2), random.between(1, 2), 0, tolerance],
+        check: (0..random.one_of(&[0, 18])).map(|_| random.luminance()).collect(),
+        ..Record::default()
+    };
+    room(random, &mut record);
+    let ends = ends::draw(random, gsdf, &mut record);
+    let shape = random.one_of(&SHAPES);
+    let (ddls, luminances) = panels::sweep(random, gsdf, shape, &ends, record.last_ddl());
+    (Record { ddls, luminances, ..record }, shape)
+}
+
+/// Nothing, any bytes, or any after the first count.
+fn no_record(random: &mut Random) -> Vec<u8> {
+    match random.below(4) {
+        0 => vec![],
+        1 => random.bytes(100),
+        2 => random.bytes(7_000),
+        _ => [vec![5, 0], random.bytes(100)].concat(),
+    }
+}
+
+pub fn draw(random: &mut Random, gsdf: &Gsdf) -> Job {
+    let kind = random.below(100);
+    if kind < 2 {
+        return Job { bytes: no_record(random), shape: None };
+    }
+    let (record, shape) = undamaged(random, gsdf);
+    if kind < 30 {
+        return Job { bytes: damage::damaged(random, record), shape: None };
+    }
+    Job { bytes: record.bytes(), shape: Some(shape) }
+}

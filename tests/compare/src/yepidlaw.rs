@@ -1,0 +1,28 @@
+//! The operations on a job record: crate `yepidlaw`.
+
+/// What making a nearest table gives.
+#[derive(Clone, Copy, Debug, PartialEq)]
+#[repr(C)]
+pub struct Nearest {
+    /// 0 for a result, else its number; every other field of a refusal is 0.
+    pub refusal: u32,
+    pub jlo: u32,
+    pub jhi: u32,
+    /// N.
+    pub range: u32,
+    /// The room mark: 0 low, 1 high.
+    pub room_high: u32,
+    /// The largest distance of an entry's luminance from its target.
+    pub error: u32,
+}
+
+/// The functions as they are.
+pub mod raw {
+    extern "C" {
+        pub fn yepidlaw_nearest(record: *const u8, n: usize, table: *mut u16, m: usize) -> super::Nearest;
+    }
+}
+
+pub fn nearest(record: &[u8], table: &mut [u16]) -> Nearest {
+    unsafe { raw::yepidlaw_nearest(record.as_ptr(), record.len(), table.as_mut_ptr(), table.len()) }
+}

@@ -1,0 +1,62 @@
+//! The operations on a job record: the tests in order, then the result.
+use crate::curve;
+use crate::gsdf::Gsdf;
+use crate::nearest::{self, Table};
+use crate::record::{self, Record};
+use crate::target::Range;
+
+const LAST_P_VALUE: u64 = 255;
+const LEAST_RANGE: u64 = 10_000;
+
+/// What a sound job is worked out from.
+pub struct Sound {
+    pub record: Record,
+    /// A.
+    pub added: u64,
+    pub room_high: bool,
+    /// F(0) to F(M).
+    pub curve: Vec<u64>,
+    pub range: Range,
+    /// t(0) to t(255).
+    pub targets: Vec<u64>,
+}
+
+pub struct Engine {
+    pub gsdf: Gsdf,
+}
+
+impl Engine {
+    pub fn from_data_file() -> Engine {
+        Engine { gsdf: Gsdf::from_data_file() }
+    }
+
+    /// The job, or the first of 2 to 10 that it meets.
+    pub fn sound(&self, bytes: &[u8]) -> Result<Sound, u32> {
+        let record = record::read(bytes)?;
+        record::judge(&record)?;
+        let curve = curve::curve(&record);
+        let (darkest, brightest) = (curve[0], curve[curve.len() - 1]);
+        if darkest < self.gsdf.darkest() {
+            return Err(8);
+        }
+        if self.gsdf.brightest() < brightest {
+            return Err(9);
+        }
+        let range = Range::between(&self.gsdf, darkest, brightest);
+        if range.width() < LEAST_RANGE {
+            return Err(10);
+        }
+        let targets = range.targets(&self.gsdf, LAST_P_VALUE);
+        Ok(Sound { added: curve::added_luminance(&record), room_high: curve::room_is_high(&record), record, curve, range, targets })
+    }
+
+    /// The job and its nearest table, for a lent slice of so many entries, or the first of 1 to 10 that it meets.
+    pub fn nearest(&self, bytes: &[u8], entries: usize) -> Result<(Sound, Table), u32> {
+        if entries as u64 <= LAST_P_VALUE {
+            return Err(1);
+        }
+        let job = self.sound(bytes)?;
+        let table = nearest::table(&job.curve, &job.targets);
+        Ok((job, table))
+    }
+}
