@@ -1,0 +1,32 @@
+-- The result in numbers, from the numbers of its parts.
+-- Assumes nothing.
+use Prim.Native.Nat.{ℕ}
+use mathlib.Core.List.{List}
+use mathlib.Core.Path.{_≡_, ap, _∙_}
+use Rattle.record.specs.Refusals.{refusalNumber}
+use Rattle.record.specs.declared.Refusal.{Refusal}
+use Rattle.engine.specs.Nearest.{NearestPromise}
+use Rattle.engine.specs.declared.NearestFigures.{NearestFigures}
+use Rattle.engine.specs.declared.NearestAnswer.{NearestAnswer}
+use Rattle.engine.specs.declared.NearestAnswer.the-variants.{Made, Refused}
+use Rattle.yepidlaw.specs.declared.NearestResult.{NearestResult}
+use Rattle.yepidlaw.specs.Nearest.{roomNumber, resultOf, NearestCall}
+
+pub result-made : {answer : NearestAnswer} {figures : NearestFigures} {room : ℕ} → answer ≡ Made figures → room ≡ roomNumber (figures .room)
+    → record {
+      refusal = 0;
+      jlo = figures .indices .low .0;
+      jhi = figures .indices .high .0;
+      range = figures .indices .range .0;
+      room = room;
+      error = figures .error .0;
+    } ≡ resultOf answer
+result-made e f = rw (e, f)
+
+pub result-refused : {answer : NearestAnswer} {r : Refusal} {n : ℕ} → answer ≡ Refused r → n ≡ refusalNumber r
+    → record { refusal = n; jlo = 0; jhi = 0; range = 0; room = 0; error = 0 } ≡ resultOf answer
+result-refused e f = rw (e, f)
+
+pub called : {bytes before after : List ℕ} {answer : NearestAnswer} {result : NearestResult}
+    → NearestPromise bytes before after answer → result ≡ resultOf answer → NearestCall bytes before after result
+called h e = record { numbers = e ∙ ap resultOf (h .answers); table = h .table }

@@ -1,0 +1,40 @@
+-- The nearest table's result in bare numbers, as C takes it.
+use Prim.Native.Nat.{ℕ}
+use mathlib.Core.Path.{_≡_}
+use mathlib.Core.List.{List}
+use lib.ListN.{length}
+use Rattle.record.specs.Refusals.{refusalNumber}
+use Rattle.curve.specs.declared.RoomMark.{RoomMark}
+use Rattle.curve.specs.declared.RoomMark.the-variants.{Low, High}
+use Rattle.engine.specs.Nearest.{nearestAnswer, nearestLent}
+use Rattle.engine.specs.declared.NearestAnswer.{NearestAnswer}
+use Rattle.engine.specs.declared.NearestAnswer.the-variants.{Made, Refused}
+use Rattle.yepidlaw.specs.declared.NearestResult.{NearestResult}
+
+abbrev pub roomNumber : RoomMark → ℕ
+roomNumber Low = 0
+roomNumber High = 1
+
+-- refusal 0 and the figures, or the refusal's number and 0 for each figure
+abbrev pub resultOf : NearestAnswer → NearestResult
+resultOf (Made figures) = record {
+  refusal = 0;
+  jlo = figures .indices .low .0;
+  jhi = figures .indices .high .0;
+  range = figures .indices .range .0;
+  room = roomNumber (figures .room);
+  error = figures .error .0;
+}
+resultOf (Refused r) = record {
+  refusal = refusalNumber r;
+  jlo = 0;
+  jhi = 0;
+  range = 0;
+  room = 0;
+  error = 0;
+}
+
+-- what a call promises of its result and of the entries after it
+pub record NearestCall (bytes before after : List ℕ) (result : NearestResult) : Type 0 where
+  pub numbers : result ≡ resultOf (nearestAnswer bytes (length before))
+  pub table : after ≡ nearestLent bytes before

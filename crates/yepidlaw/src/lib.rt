@@ -1,0 +1,75 @@
+// The engine's operations through the C ABI; include/yepidlaw.h declares them.
+ghost use mathlib.Core.Path.{_≡_};
+ghost use Rattle.yepidlaw.specs.Nearest.{roomNumber, resultOf, NearestCall};
+use curve::RoomMark;
+use engine::NearestAnswer;
+
+#[repr(C)]
+pub struct NearestResult {
+    // 0 where the table was made; else the refusal's number, and 0 in every other field.
+    pub refusal: u32,
+    // Indices in hundredths of a JND.
+    pub jlo: u32,
+    pub jhi: u32,
+    pub range: u32,
+    // 0 low, 1 high.
+    pub room: u32,
+    // The largest error over the table, in units of 0.0001 cd/m².
+    pub error: u32,
+}
+
+fn room_number(room: RoomMark) -> u32
+    ensures { λ r. ⌜ r ≡ roomNumber room ⌝ }
+{
+    match room {
+        RoomMark::Low => 0,
+        RoomMark::High => 1,
+    }
+}
+
+fn nearest_result(answer: NearestAnswer) -> NearestResult
+    ensures { λ r. ⌜ r ≡ resultOf answer ⌝ }
+{
+    match answer {
+        NearestAnswer::Made(figures) => {
+            let indices = figures.indices;
+            let low = indices.low;
+            let high = indices.high;
+            let width = indices.range;
+            let mark = figures.room;
+            let largest = figures.error;
+            let jlo = low.0;
+            let jhi = high.0;
+            let range = width.0;
+            let error = largest.0;
+            let room = room_number(mark);
+            NearestResult {
+                refusal: 0,
+                jlo: jlo,
+                jhi: jhi,
+                range: range,
+                room: room,
+                error: error,
+            }
+        }
+        NearestAnswer::Refused(r) => {
+            let number = record::refusal_number(r);
+            NearestResult {
+                refusal: number,
+                jlo: 0,
+                jhi: 0,
+                range: 0,
+                room: 0,
+                error: 0,
+            }
+        }
+    }
+}
+
+#[no_mangle]
+pub extern "C" fn yepidlaw_nearest(bytes: &[u8], table: &mut [u16]) -> NearestResult
+    ensures { λ r. ⌜ NearestCall (now (bytes .entry)) (now (table .entry)) (now (table .exit)) r ⌝ }
+{
+    let answer = engine::nearest_table(bytes, table);
+    nearest_result(answer)
+}
