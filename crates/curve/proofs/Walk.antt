@@ -15,8 +15,8 @@ use Rattle.curve.proofs.Laws.{pair-is, pair-inside, pair-to, pair-passe
 
 -- ---- the luminance between two readings
 
-pub product-fits : (l1 l2 d1 d : ℕ) → l2 < 4294967296 → d < 65536 → (l2 - l1) * (d - d1) < 18446744073709551616
-product-fits l1 l2 d1 d h k = omega (arith, mul-le-mul {n₁ = l2 - l1} {m₁ = d - d1} {n₂ = 4294967295} {m₂ = 65535} (omega arith) (omega arith))
+pub product-fits : (rise steps : ℕ) → rise < 4294967296 → steps < 65536 → rise * steps < 18446744073709551616
+product-fits rise steps h k = omega (arith, mul-le-mul {n₁ = rise} {m₁ = steps} {n₂ = 4294967295} {m₂ = 65535} (omega arith) (omega arith))
 
 module _ {d1 l1 d2 l2 d : ℕ} (b : Between d1 l1 d2 l2 d) where
   pub part-high : l1 + (l2 - l1) * (d - d1) / (d2 - d1) ≤ l2

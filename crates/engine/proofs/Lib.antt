@@ -5,3 +5,5 @@ pub mod Reading
 pub mod Soundness
 pub mod Ready
 pub mod Nearest
+pub mod NearestFacts
+pub mod Refusals

@@ -24,11 +24,11 @@ use Rattle.target.specs.Target.{rangeOf, tooNarrow, targetsOf, Aims}
 use Rattle.target.specs.declared.IndexRange.{IndexRange}
 use Rattle.target.proofs.Laws as target
 use Rattle.target.proofs.Ranges.{range-low, range-high, range-between}
-use Rattle.engine.specs.Sound.{SoundJob, Soundness, sound, unsound, IsSound, roomOf, addedOf, topOf, rangeTests, displayed}
+use Rattle.engine.specs.Sound.{SoundJob, Soundness, sound, unsound, IsSound, roomOf, addedOf, topOf, rangeTests, measured}
 use Rattle.engine.specs.Preparing.{Roomy, Measurable, Prepares}
 use Rattle.engine.specs.declared.Ranged.{Ranged}
 use Rattle.engine.specs.declared.Ranged.the-variants.{Wide, Fault}
-use Rattle.engine.specs.declared.Prepared.the-variants.{Ready, Turned}
+use Rattle.engine.specs.declared.Prepared.the-variants.{Ready, SentBack}
 
 -- what holds at each of the three depths
 by-depth : (P : ℕ → Type 0) (b : ℕ) → 8 ≤ b → b ≤ 10 → P 8 → P 9 → P 10 → P b
@@ -86,11 +86,11 @@ module _ {ddls luminances : List ℕ} {top : ℕ} (s : Sweep ddls luminances top
     white-is : curveAt added ddls luminances top ≡ added + getD luminances (length luminances - 1) 0
     white-is = curve.curve-last s added ∙ rw (s .pairs)
 
-    -- a display that is sent back
+    -- a display that a test sends back
     module _ (room : ℕ) (r : Refusal) (e : rangeTests (added + getD luminances 0 0) (added + getD luminances (length luminances - 1) 0) ≡ Fault r) where
-      pub turned : displayed room added top ddls luminances ≡ unsound r
-      unfolding displayed
-      turned = simp (black-is, white-is, e)
+      pub faulted : measured room added top ddls luminances ≡ unsound r
+      unfolding measured
+      faulted = simp (black-is, white-is, e)
 
     -- and one that is not
     module _ (room : ℕ) (indices : IndexRange) (e : rangeTests (added + getD luminances 0 0) (added + getD luminances (length luminances - 1) 0) ≡ Wide indices) where
@@ -105,8 +105,8 @@ module _ {ddls luminances : List ℕ} {top : ℕ} (s : Sweep ddls luminances top
         room = roomMark room (getD luminances 0 0);
       }
 
-      pub kept : displayed room added top ddls luminances ≡ sound made
-      unfolding displayed
+      pub kept : measured room added top ddls luminances ≡ sound made
+      unfolding measured
       kept = simp (black-is, white-is, e)
 
       pub drawable : (curve : List ℕ) → top ≤ 1023 → length curve ≡ 1024 → Drawable ddls luminances top added curve
@@ -138,12 +138,12 @@ module _ {ddls luminances : List ℕ} {top : ℕ} (s : Sweep ddls luminances top
       pub ready : (mark : RoomMark) (curve₀ curve₁ targets₀ targets₁ : List ℕ) → mark ≡ roomMark room (getD luminances 0 0)
           → curve₁ ≡ curveOf added ddls luminances top ++ drop (top + 1) curve₀
           → targets₁ ≡ targetsOf (indices .low .0) (indices .range .0) 255 ++ drop 256 targets₀
-          → Prepares (displayed room added top ddls luminances) (Ready (record { levels = top + 1; indices = indices; room = mark })) curve₀ curve₁ targets₀ targets₁
+          → Prepares (measured room added top ddls luminances) (Ready (record { levels = top + 1; indices = indices; room = mark })) curve₀ curve₁ targets₀ targets₁
       ready mark curve₀ curve₁ targets₀ targets₁ em ec et =
           let lc : length (curveOf added ddls luminances top) ≡ top + 1 = curve.curve-length s added in
           let lt : length (targetsOf (indices .low .0) (indices .range .0) 255) ≡ 256 = target.targets-length (indices .low .0) (indices .range .0) 255 in
           rw kept (record { answers = rw (lc, em); curve = rw lc ec; targets = rw lt et })
 
 -- nothing is written for a job that is sent back
-pub turned-back : (x : Soundness) (r : Refusal) (curve targets : List ℕ) → x ≡ unsound r → Prepares x (Turned r) curve curve targets targets
-turned-back x r curve targets e = rw e (record { answers = refl; curve = refl; targets = refl })
+pub nothing-written : (x : Soundness) (r : Refusal) (curve targets : List ℕ) → x ≡ unsound r → Prepares x (SentBack r) curve curve targets targets
+nothing-written x r curve targets e = rw e (record { answers = refl; curve = refl; targets = refl })

@@ -1,4 +1,4 @@
--- From an accepted record to its display.
+-- From an accepted record to its measured display.
 -- Assumes nothing.
 use mathlib.Core.Path.{_≡_, refl, sym, ap, _∙_}
 use mathlib.Core.List.{List}
@@ -20,10 +20,10 @@ use Rattle.record.specs.declared.Answer.the-variants.{Accepted, Refused}
 use Rattle.record.proofs.Accepted.{accepted-job}
 use Rattle.curve.specs.Room.{addedLuminance}
 use Rattle.curve.specs.Curve.{Sweep}
-use Rattle.engine.specs.Sound.{Soundness, unsound, roomOf, addedOf, topOf, displayed, afterReading, soundness}
+use Rattle.engine.specs.Sound.{Soundness, unsound, roomOf, addedOf, topOf, measured, afterReading, soundness}
 use Rattle.engine.specs.Preparing.{Measurable, Prepares}
 use Rattle.engine.specs.declared.Prepared.{Prepared}
-use Rattle.engine.proofs.Measuring.{top-high, turned-back}
+use Rattle.engine.proofs.Measuring.{top-high, nothing-written}
 
 pub as-sound : (x y : Soundness) (r : Prepared) (curve₀ curve₁ targets₀ targets₁ : List ℕ) → x ≡ y
     → Prepares y r curve₀ curve₁ targets₀ targets₁ → Prepares x r curve₀ curve₁ targets₀ targets₁
@@ -38,15 +38,15 @@ module _ {job : Job} {ddls luminances : List ℕ} {n : ℕ} (m : Measurable job 
   pub sweep-to : (top : ℕ) → top ≡ topOf job → Sweep (take n ddls) (take n luminances) top
   sweep-to top e = rw e (m .sweep)
 
-pub displays : (job : Job) (room added top : ℕ) (ddls luminances : List ℕ) (r : Prepared) (curve₀ curve₁ targets₀ targets₁ : List ℕ)
+pub measures : (job : Job) (room added top : ℕ) (ddls luminances : List ℕ) (r : Prepared) (curve₀ curve₁ targets₀ targets₁ : List ℕ)
     → room ≡ roomOf job → added ≡ addedLuminance (job .settings .meter) room → top ≡ topOf job
-    → Prepares (displayed room added top ddls luminances) r curve₀ curve₁ targets₀ targets₁
-    → Prepares (displayed (roomOf job) (addedOf job) (topOf job) ddls luminances) r curve₀ curve₁ targets₀ targets₁
-displays job room added top ddls luminances r curve₀ curve₁ targets₀ targets₁ er ea et h =
-    as-sound _ (displayed room added top ddls luminances) r curve₀ curve₁ targets₀ targets₁
-    (sym (ap (λ (x : ℕ). displayed x added top ddls luminances) er
-    ∙ ap (λ (x : ℕ). displayed (roomOf job) x top ddls luminances) (ea ∙ ap (addedLuminance (job .settings .meter)) er)
-    ∙ ap (λ (x : ℕ). displayed (roomOf job) (addedOf job) x ddls luminances) et)) h
+    → Prepares (measured room added top ddls luminances) r curve₀ curve₁ targets₀ targets₁
+    → Prepares (measured (roomOf job) (addedOf job) (topOf job) ddls luminances) r curve₀ curve₁ targets₀ targets₁
+measures job room added top ddls luminances r curve₀ curve₁ targets₀ targets₁ er ea et h =
+    as-sound _ (measured room added top ddls luminances) r curve₀ curve₁ targets₀ targets₁
+    (sym (ap (λ (x : ℕ). measured x added top ddls luminances) er
+    ∙ ap (λ (x : ℕ). measured (roomOf job) x top ddls luminances) (ea ∙ ap (addedLuminance (job .settings .meter)) er)
+    ∙ ap (λ (x : ℕ). measured (roomOf job) (addedOf job) x ddls luminances) et)) h
 
 -- ---- a record
 

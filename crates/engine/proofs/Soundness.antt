@@ -19,10 +19,10 @@ use Rattle.curve.proofs.Laws as curve
 use Rattle.target.specs.Target.{targetAt, Aims}
 use Rattle.target.specs.declared.IndexRange.{IndexRange}
 use Rattle.target.proofs.Laws as target
-use Rattle.engine.specs.Sound.{SoundJob, Soundness, sound, unsound, IsSound, roomOf, addedOf, topOf, rangeTests, displayed, afterReading, soundness}
+use Rattle.engine.specs.Sound.{SoundJob, Soundness, sound, unsound, IsSound, roomOf, addedOf, topOf, rangeTests, measured, afterReading, soundness}
 use Rattle.engine.specs.declared.Ranged.{Ranged}
 use Rattle.engine.specs.declared.Ranged.the-variants.{Wide, Fault}
-use Rattle.engine.proofs.Measuring.{top-low, top-high, Passed, through, turned, made, kept, aims}
+use Rattle.engine.proofs.Measuring.{top-low, top-high, Passed, through, faulted, made, kept, aims}
 use Rattle.engine.proofs.Reading.{sweep-of}
 use Rattle.gsdf.specs.Table.{tableB1}
 
@@ -57,11 +57,11 @@ module _ {ddls luminances : List ℕ} {top : ℕ} (s : Sweep ddls luminances top
               rw (target.targets-at (indices .low .0) (indices .range .0) 255 i 0 (omega arith)) (target.target-high (indices .low .0) (indices .range .0) 255 (a .first) (a .last) (a .some) i (omega arith));
         }
 
-  display-sound : (job : SoundJob) → displayed room added top ddls luminances ≡ sound job → IsSound job
-  display-sound job e = go (rangeTests (added + getD luminances 0 0) (added + getD luminances (length luminances - 1) 0)) refl
+  measured-sound : (job : SoundJob) → measured room added top ddls luminances ≡ sound job → IsSound job
+  measured-sound job e = go (rangeTests (added + getD luminances 0 0) (added + getD luminances (length luminances - 1) 0)) refl
     where
       go : (x : Ranged) → rangeTests (added + getD luminances 0 0) (added + getD luminances (length luminances - 1) 0) ≡ x → IsSound job
-      go (Fault r) t = absurd (never (sym (turned s added room r t) ∙ e))
+      go (Fault r) t = absurd (never (sym (faulted s added room r t) ∙ e))
       go (Wide indices) t =
           let f : sound (made s added room indices t) ≡ sound job = sym (kept s added room indices t) ∙ e in
           let same : made s added room indices t ≡ job = cc in
@@ -76,5 +76,5 @@ sound-job bytes job e = go (answerOf bytes) refl
     go (Refused r) t = absurd (never (rw t at e))
     go (Accepted j) t =
         let a : AcceptedJob bytes j = accepted-job bytes j t in
-        let f : displayed (roomOf j) (addedOf j) (topOf j) (ddlsIn (sections bytes)) (luminancesIn (sections bytes)) ≡ sound job = rw t at e in
-        display-sound (sweep-of a) (top-low (j .settings .depth) (a .depth-low) (a .depth-high)) (top-high (j .settings .depth) (a .depth-low) (a .depth-high)) (addedOf j) (roomOf j) job f
+        let f : measured (roomOf j) (addedOf j) (topOf j) (ddlsIn (sections bytes)) (luminancesIn (sections bytes)) ≡ sound job = rw t at e in
+        measured-sound (sweep-of a) (top-low (j .settings .depth) (a .depth-low) (a .depth-high)) (top-high (j .settings .depth) (a .depth-low) (a .depth-high)) (addedOf j) (roomOf j) job f

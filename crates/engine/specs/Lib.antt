@@ -1,4 +1,5 @@
 pub mod MarkedExamples
 pub mod Sound
 pub mod Nearest
+pub mod NearestFacts
 pub mod Preparing

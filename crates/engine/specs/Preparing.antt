@@ -8,7 +8,7 @@ use Rattle.curve.specs.Curve.{Sweep}
 use Rattle.engine.specs.Sound.{Soundness, sound, unsound, topOf}
 use Rattle.engine.specs.declared.Frame.{Frame}
 use Rattle.engine.specs.declared.Prepared.{Prepared}
-use Rattle.engine.specs.declared.Prepared.the-variants.{Ready, Turned}
+use Rattle.engine.specs.declared.Prepared.the-variants.{Ready, SentBack}
 
 -- the curve and the targets of a sound job
 abbrev pub curveIn : Soundness → List ℕ
@@ -21,7 +21,7 @@ targetsIn (unsound r) = []
 
 abbrev pub preparedOf : Soundness → Prepared
 preparedOf (sound job) = Ready (record { levels = length (job .curve); indices = job .indices; room = job .room })
-preparedOf (unsound r) = Turned r
+preparedOf (unsound r) = SentBack r
 
 -- two arrays that are long enough
 pub record Roomy (curve targets : List ℕ) : Type 0 where

@@ -56,9 +56,9 @@ rangeTests black white =
     (cond (tooNarrow (rangeOf black white .range .0)) (Fault RangeTooNarrow)
     (Wide (rangeOf black white))))
 
--- what a display makes, by A0, A, M and its sweep
-unfoldable pub displayed : (room added top : ℕ) (ddls luminances : List ℕ) → Soundness
-displayed room added top ddls luminances = after (rangeTests (F 0) (F top))
+-- what the measurement of a display makes, by A0, A, M and the sweep
+unfoldable pub measured : (room added top : ℕ) (ddls luminances : List ℕ) → Soundness
+measured room added top ddls luminances = after (rangeTests (F 0) (F top))
   where
     F : ℕ → ℕ
     F = curveAt added ddls luminances
@@ -74,7 +74,7 @@ displayed room added top ddls luminances = after (rangeTests (F 0) (F top))
 
 -- what follows the reading of a record and tests 2 to 7
 abbrev pub afterReading : Answer → (ddls luminances : List ℕ) → Soundness
-afterReading (Accepted job) ddls luminances = displayed (roomOf job) (addedOf job) (topOf job) ddls luminances
+afterReading (Accepted job) ddls luminances = measured (roomOf job) (addedOf job) (topOf job) ddls luminances
 afterReading (Refused r) ddls luminances = unsound r
 
 -- a record of any bytes

@@ -5,7 +5,7 @@ ghost use Prim.Native.Nat.{_+_, _≤_};
 ghost use Rattle.curve.specs.Curve.{Sweep};
 ghost use Rattle.record.specs.declared.Answer.the-variants.{Accepted};
 ghost use Rattle.gsdf.specs.Table.{tableB1};
-ghost use Rattle.engine.specs.Sound.{soundness, displayed, afterReading, rangeTests};
+ghost use Rattle.engine.specs.Sound.{soundness, measured, afterReading, rangeTests};
 ghost use Rattle.engine.specs.Preparing.{Roomy, Measurable, Prepares};
 ghost use Rattle.engine.specs.Nearest.{NearestPromise};
 use curve::RoomMark;
@@ -33,7 +33,7 @@ pub struct Frame {
 
 pub enum Prepared {
     Ready(Frame),
-    Turned(Refusal),
+    SentBack(Refusal),
 }
 
 // The figures of a nearest table: Jlo, Jhi and N, the room mark, and the largest error over its entries.
@@ -73,7 +73,7 @@ fn test_range(table: &[u32; 1023], added: Luminance, first: Luminance, last: Lum
 }
 
 // Tests 8, 9 and 10, then the curve and the targets, by A0, A, M and the sweep.
-fn display(
+fn measure(
     room: Luminance,
     added: Luminance,
     top: Ddl,
@@ -83,7 +83,7 @@ fn display(
     targets: &mut [u32],
 ) -> Prepared
     requires { ⌜ (top .0 ≤ 1023) × Sweep (now ddls) (now luminances) (top .0) × Roomy (now curve) (now targets) ⌝ }
-    ensures { λ r. ⌜ Prepares (displayed (room .0) (added .0) (top .0) (now (ddls .entry)) (now (luminances .entry))) r (now (curve .entry)) (now (curve .exit)) (now (targets .entry)) (now (targets .exit)) ⌝ }
+    ensures { λ r. ⌜ Prepares (measured (room .0) (added .0) (top .0) (now (ddls .entry)) (now (luminances .entry))) r (now (curve .entry)) (now (curve .exit)) (now (targets .entry)) (now (targets .exit)) ⌝ }
 {
     let end = luminances.len() - 1;
     let darkest = luminances[0];
@@ -93,7 +93,7 @@ fn display(
     let table = gsdf::table_b1();
     let found = test_range(&table, added, first, last);
     match found {
-        Ranged::Fault(r) => Prepared::Turned(r),
+        Ranged::Fault(r) => Prepared::SentBack(r),
         Ranged::Wide(indices) => {
             curve::fill_curve(ddls, luminances, top, added, curve);
             let low = indices.low;
@@ -112,7 +112,7 @@ fn display(
 }
 
 // An accepted job, with the n readings of its sweep at the front of two slices.
-fn measure<'a>(
+fn measure_job<'a>(
     job: Job,
     ddls: &'a [u16],
     luminances: &'a [u32],
@@ -131,7 +131,7 @@ fn measure<'a>(
     let room = curve::room_luminance(lux, reflectance);
     let added = curve::added_luminance(meter, room);
     let top = record::max_ddl(depth);
-    display(
+    measure(
         room,
         added,
         top,
@@ -150,10 +150,10 @@ fn prepare(bytes: &[u8], curve: &mut [u32], targets: &mut [u32]) -> Prepared
     let found = record::read_record(bytes);
     let answer = found.answer;
     match answer {
-        Answer::Refused(r) => Prepared::Turned(r),
+        Answer::Refused(r) => Prepared::SentBack(r),
         Answer::Accepted(job) => {
             let n = found.readings;
-            measure(job, &found.ddls, &found.luminances, n, curve, targets)
+            measure_job(job, &found.ddls, &found.luminances, n, curve, targets)
         }
     }
 }
@@ -169,7 +169,7 @@ pub fn nearest_table(bytes: &[u8], table: &mut [u16]) -> NearestAnswer
     let mut targets = [0u32; 256];
     let found = prepare(bytes, &mut curve, &mut targets);
     match found {
-        Prepared::Turned(r) => NearestAnswer::Refused(r),
+        Prepared::SentBack(r) => NearestAnswer::Refused(r),
         Prepared::Ready(frame) => {
             let levels = frame.levels;
             let error = nearest::fill_table(&curve[..levels], &targets, table);

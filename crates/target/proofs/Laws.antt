@@ -28,10 +28,6 @@ module _ (low range top : ℕ) where
   targets-at p x h = getD-tab (targetAt low range top) (top + 1) p x (omega arith)
 
   module _ (first : 100 ≤ low) (last : low + range ≤ 102300) (some : 1 ≤ top) where
-    pub index-mono : (p q : ℕ) → p ≤ q → indexAt low range top p ≤ indexAt low range top q
-    unfolding indexAt
-    index-mono p q h = omega (arith, quotient-mono (range * p) (range * q) top (omega arith) (mul-le-mul-left range h))
-
     pub index-first : indexAt low range top 0 ≡ low
     unfolding indexAt
     index-first = rw (mul-zero, zero-div) (omega arith)
@@ -39,6 +35,10 @@ module _ (low range top : ℕ) where
     pub index-last : indexAt low range top top ≡ low + range
     unfolding indexAt
     index-last = rw (mul-div-cancel range {n = top} (omega arith))
+
+    pub index-mono : (p q : ℕ) → p ≤ q → indexAt low range top p ≤ indexAt low range top q
+    unfolding indexAt
+    index-mono p q h = omega (arith, quotient-mono (range * p) (range * q) top (omega arith) (mul-le-mul-left range h))
 
     pub index-to : (p : ℕ) → p ≤ top → indexAt low range top p ≤ 102300
     index-to p h = omega (arith, index-mono p top h, index-last)

@@ -26,8 +26,8 @@ module _ (black white : ℕ) where
 
 -- as the code finds it
 
-pub range-order : {table : List ℕ} {black white low high : ℕ} → HasRange table black white → low ≡ indexOf black → high ≡ indexOf white → low ≤ high
-range-order {black = black} {white = white} h e f = omega (arith, index-mono black white (h .low .low) (h .order))
+pub range-order : {table : List ℕ} {black white : ℕ} → HasRange table black white → indexOf black ≤ indexOf white
+range-order {black = black} {white = white} h = index-mono black white (h .low .low) (h .order)
 
 pub range-is : (low high : JndIndex) (black white : ℕ) → low .0 ≡ indexOf black → high .0 ≡ indexOf white
     → record { low = low; high = high; range = record { 0 = high .0 - low .0 } } ≡ rangeOf black white

@@ -32,7 +32,7 @@ cast-width c = search needs
 
 -- src/lib.rt:83:19
 mul-product : tie.Need-mul-product
-mul-product c = omega (arith, product-fits (c .args .l1 .0) (c .args .l2 .0) (c .args .d1 .0) (c .args .d .0) (omega arith) (omega arith))
+mul-product c = record { fits = product-fits _ _ (omega arith) (omega arith) }
 
 -- src/lib.rt:84:16
 div-part : tie.Need-div-part

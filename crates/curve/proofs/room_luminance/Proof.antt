@@ -16,7 +16,7 @@ cast-rd c = search needs
 
 -- src/lib.rt:27:21
 mul-luminance : tie.Need-mul-luminance
-mul-luminance c = omega (arith, room-fits (c .before .before .args .lux .0) (c .before .before .args .reflectance .0) (omega arith) (omega arith))
+mul-luminance c = record { fits = room-fits _ _ (omega arith) (omega arith) }
 
 -- src/lib.rt:22:1
 returns : tie.Need-returns

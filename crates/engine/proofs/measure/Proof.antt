@@ -1,62 +1,103 @@
+use native.Mathlib.Omega.{arith}
 use borrow.Author.Needs.{needs}
-use mathlib.Core.Path.{sym}
-use lib.Seq.{length-take-le}
-use Rattle.engine.proofs.Reading.{top-fits, sweep-to, displays}
+use mathlib.Core.Path.{sym, _∙_}
+use Rattle.engine.proofs.Measuring.{first-last, faulted, nothing-written, drawable, aims, ready}
 use Rattle.engine.proofs.measure.Statement.{statement}
 use Rattle.engine.proofs.measure.Tie as tie
 use Rattle.engine.proofs.measure.Reads as reads
 use Rattle.engine.proofs.measure.Lts as lts
-use Rattle.curve.proofs.added_luminance.Reads as added-luminance-reads
-use Rattle.curve.proofs.room_luminance.Reads as room-luminance-reads
-use Rattle.engine.proofs.display.Reads as display-reads
-use Rattle.record.proofs.max_ddl.Reads as max-ddl-reads
+use Rattle.curve.proofs.fill_curve.Reads as fill-curve-reads
+use Rattle.curve.proofs.room_mark.Reads as room-mark-reads
+use Rattle.engine.proofs.test_range.Reads as test-range-reads
+use Rattle.gsdf.proofs.table_b1.Reads as table-b1-reads
+use Rattle.target.proofs.fill_targets.Reads as fill-targets-reads
 
--- src/lib.rt:130:9
-room-luminance-requires : tie.Need-room-luminance-requires
-room-luminance-requires c κs = search needs
+-- src/lib.rt:87:15
+sub-end : tie.Need-sub-end
+sub-end c = search needs
 
--- src/lib.rt:131:9
-added-luminance-requires : tie.Need-added-luminance-requires
-added-luminance-requires c κs = search needs
+-- src/lib.rt:88:19
+shared-slice-read-darkest : tie.Need-shared-slice-read-darkest
+shared-slice-read-darkest c = search needs
 
--- src/lib.rt:132:9
-max-ddl-requires : tie.Need-max-ddl-requires
-max-ddl-requires c κs = search needs
+-- src/lib.rt:89:21
+mul-brightest : tie.Need-mul-brightest
+mul-brightest c = search needs
 
--- src/lib.rt:137:9
-slice-aggregate-display : tie.Need-slice-aggregate-display
-slice-aggregate-display c = sym (length-take-le _ _ (c .before .before .before .before .before .before .before .before .before .before .before .pre .0 .ddls-fit))
+-- src/lib.rt:89:21
+shared-slice-read-brightest : tie.Need-shared-slice-read-brightest
+shared-slice-read-brightest c = search needs
 
--- src/lib.rt:138:9
-slice-aggregate-display-2 : tie.Need-slice-aggregate-display-2
-slice-aggregate-display-2 c = sym (length-take-le _ _ (c .before .before .before .before .before .before .before .before .before .before .before .before .pre .0 .luminances-fit))
+-- src/lib.rt:92:17
+table-b1-requires : tie.Need-table-b1-requires
+table-b1-requires c κs = search needs
 
--- src/lib.rt:133:5
-display-requires : tie.Need-display-requires
-display-requires c κs = (top-fits (c .before .before .before .before .before .before .before .before .before .before .before .before .before .before .pre .0) _ (c .before .before .before .before .max-ddl .ensures), sweep-to (c .before .before .before .before .before .before .before .before .before .before .before .before .before .before .pre .0) _ (c .before .before .before .before .max-ddl .ensures), c .before .before .before .before .before .before .before .before .before .before .before .before .before .before .pre .1)
+-- src/lib.rt:93:9
+test-range-requires : tie.Need-test-range-requires
+test-range-requires c κs = (c .before .table-b1 .ensures, first-last (c .before .before .before .before .before .before .before .before .pre .1))
 
--- src/lib.rt:114:1
+-- src/lib.rt:95:23
+enum-known-found : tie.Need-enum-known-found
+enum-known-found c = search needs
+
+-- src/lib.rt:96:22
+enum-known-found-2 : tie.Need-enum-known-found-2
+enum-known-found-2 c = search needs
+
+-- src/lib.rt:97:13
+fill-curve-requires : tie.Need-fill-curve-requires
+fill-curve-requires c κs = drawable (c .before .before .before .before .before .before .before .before .before .before .before .before .before .pre .1) (c .before .before .before .before .before .before .before .before .before .before .before .before .before .args .added .0) (c .before .before .before .before .before .before .before .before .before .before .before .before .before .args .room .0) _ (sym (c .before .before .before .before .test-range .ensures) ∙ c .before .before .found2 .given .1) _ (c .before .before .before .before .before .before .before .before .before .before .before .before .before .pre .0) (c .before .before .before .before .before .before .before .before .before .before .before .before .before .pre .2 .levels)
+
+-- src/lib.rt:100:13
+fill-targets-requires : tie.Need-fill-targets-requires
+fill-targets-requires c κs = (aims (c .before .before .before .before .before .before .before .before .before .before .before .before .before .before .before .before .before .before .before .before .pre .1) (c .before .before .before .before .before .before .before .before .before .before .before .before .before .before .before .before .before .before .before .before .args .added .0) (c .before .before .before .before .before .before .before .before .before .before .before .before .before .before .before .before .before .before .before .before .args .room .0) _ (sym (c .before .before .before .before .before .before .before .before .before .before .before .test-range .ensures) ∙ c .before .before .before .before .before .before .before .before .before .found2 .given .1) _ (c .before .before .before .before .before .before .before .before .before .before .before .before .before .table-b1 .ensures), omega (arith, c .before .before .before .before .before .before .before .before .before .before .before .before .before .before .before .before .before .before .before .before .pre .2 .values))
+
+-- src/lib.rt:101:17
+room-mark-requires : tie.Need-room-mark-requires
+room-mark-requires c κs = search needs
+
+-- src/lib.rt:103:26
+cast-levels : tie.Need-cast-levels
+cast-levels c = omega (arith, c .before .before .before .before .before .before .before .before .before .before .before .before .before .before .before .before .before .before .before .before .before .before .before .before .pre .0)
+
+-- src/lib.rt:103:26
+add-levels : tie.Need-add-levels
+add-levels c = omega (arith, c .before .before .before .before .before .before .before .before .before .before .before .before .before .before .before .before .before .before .before .before .before .before .before .before .pre .0)
+
+-- src/lib.rt:75:1
+returns : tie.Need-returns
+returns c = nothing-written _ _ _ _ (faulted (c .before .before .before .before .before .before .before .before .before .before .before .before .pre .1) (c .before .before .before .before .before .before .before .before .before .before .before .before .args .added .0) (c .before .before .before .before .before .before .before .before .before .before .before .before .args .room .0) _ (sym (c .before .before .before .test-range .ensures) ∙ c .before .found .given .1))
+
+-- src/lib.rt:75:1
 same-length : tie.Need-same-length
 same-length c = search needs
 
--- src/lib.rt:114:1
+-- src/lib.rt:75:1
 same-length-2 : tie.Need-same-length-2
 same-length-2 c = search needs
 
--- src/lib.rt:114:1
-returns : tie.Need-returns
-returns c = displays (c .before .before .before .before .before .before .before .before .before .before .before .before .before .before .before .before .before .before .before .args .job) _ _ _ _ _ _ _ _ _ _ (c .before .before .before .before .before .before .before .before .before .before .before .room-luminance .ensures) (c .before .before .before .before .before .before .before .before .before .before .added-luminance .ensures) (c .before .before .before .before .before .before .before .before .before .max-ddl .ensures) (c .before .before .before .before .display .ensures)
+-- src/lib.rt:75:1
+returns-2 : tie.Need-returns-2
+returns-2 c = ready (c .before .before .before .before .before .before .before .before .before .before .before .before .before .before .before .before .before .before .before .before .before .before .before .before .pre .1) (c .before .before .before .before .before .before .before .before .before .before .before .before .before .before .before .before .before .before .before .before .before .before .before .before .args .added .0) (c .before .before .before .before .before .before .before .before .before .before .before .before .before .before .before .before .before .before .before .before .before .before .before .before .args .room .0) _ (sym (c .before .before .before .before .before .before .before .before .before .before .before .before .before .before .before .test-range .ensures) ∙ c .before .before .before .before .before .before .before .before .before .before .before .before .before .found2 .given .1) _ _ _ _ _ (c .room-mark .ensures) (c .before .before .before .before .before .before .before .before .before .before .fill-curve .ensures) (c .before .before .before .fill-targets .ensures)
 
 pub measure-spec : {M : Type 1} → statement M
 measure-spec =
     tie.close
     (tie.spec
-    room-luminance-requires
-    added-luminance-requires
-    max-ddl-requires
-    slice-aggregate-display
-    slice-aggregate-display-2
-    display-requires
+    sub-end
+    shared-slice-read-darkest
+    mul-brightest
+    shared-slice-read-brightest
+    table-b1-requires
+    test-range-requires
+    enum-known-found
+    enum-known-found-2
+    fill-curve-requires
+    fill-targets-requires
+    room-mark-requires
+    cast-levels
+    add-levels
+    returns
     same-length
     same-length-2
-    returns)
+    returns-2)

@@ -1,12 +1,12 @@
 use borrow.Author.Needs.{needs}
 use mathlib.Core.Path.{sym, subst}
-use Rattle.engine.proofs.Measuring.{turned-back}
+use Rattle.engine.proofs.Measuring.{nothing-written}
 use Rattle.engine.proofs.Reading.{measurable, sound-as, unread, as-sound}
 use Rattle.engine.proofs.prepare.Statement.{statement}
 use Rattle.engine.proofs.prepare.Tie as tie
 use Rattle.engine.proofs.prepare.Reads as reads
 use Rattle.engine.proofs.prepare.Lts as lts
-use Rattle.engine.proofs.measure.Reads as measure-reads
+use Rattle.engine.proofs.measure_job.Reads as measure-job-reads
 use Rattle.record.proofs.read_record.Reads as read-record-reads
 
 -- src/lib.rt:149:17
@@ -22,12 +22,12 @@ enum-known-answer-2 : tie.Need-enum-known-answer-2
 enum-known-answer-2 c = search needs
 
 -- src/lib.rt:155:13
-measure-requires : tie.Need-measure-requires
-measure-requires c κs = (measurable (c .before .before .before .before .before .before .before .before .before .before .read-record .ensures) _ (c .before .before .before .before .before .before .before .before .answer2 .given .1), c .before .before .before .before .before .before .before .before .before .before .before .before .before .before .pre)
+measure-job-requires : tie.Need-measure-job-requires
+measure-job-requires c κs = (measurable (c .before .before .before .before .before .before .before .before .before .before .read-record .ensures) _ (c .before .before .before .before .before .before .before .before .answer2 .given .1), c .before .before .before .before .before .before .before .before .before .before .before .before .before .before .pre)
 
 -- src/lib.rt:145:1
 returns : tie.Need-returns
-returns c = turned-back _ _ _ _ (unread (c .before .before .before .read-record .ensures) _ (c .before .answer .given .1))
+returns c = nothing-written _ _ _ _ (unread (c .before .before .before .read-record .ensures) _ (c .before .answer .given .1))
 
 -- src/lib.rt:145:1
 same-length : tie.Need-same-length
@@ -39,7 +39,7 @@ same-length-2 c = search needs
 
 -- src/lib.rt:145:1
 returns-2 : tie.Need-returns-2
-returns-2 c = as-sound _ _ _ _ _ _ _ (sound-as (c .before .before .before .before .before .before .before .before .before .before .before .before .before .before .before .read-record .ensures) _ (c .before .before .before .before .before .before .before .before .before .before .before .before .before .answer2 .given .1)) (c .before .before .before .before .measure .ensures)
+returns-2 c = as-sound _ _ _ _ _ _ _ (sound-as (c .before .before .before .before .before .before .before .before .before .before .before .before .before .before .before .read-record .ensures) _ (c .before .before .before .before .before .before .before .before .before .before .before .before .before .answer2 .given .1)) (c .before .before .before .before .measure-job .ensures)
 
 pub prepare-spec : {M : Type 1} → statement M
 prepare-spec =
@@ -48,7 +48,7 @@ prepare-spec =
     read-record-requires
     enum-known-answer
     enum-known-answer-2
-    measure-requires
+    measure-job-requires
     returns
     same-length
     same-length-2

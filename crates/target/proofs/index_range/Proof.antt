@@ -17,7 +17,7 @@ index-in-requires-2 c κs = search needs
 
 -- src/lib.rt:28:17
 sub-range : tie.Need-sub-range
-sub-range c = range-order (c .before .before .pre) (c .before .index-in .ensures) (c .index-in2 .ensures)
+sub-range c = omega (arith, c .before .index-in .ensures, c .index-in2 .ensures, range-order (c .before .before .pre))
 
 -- src/lib.rt:20:1
 returns : tie.Need-returns

@@ -1,0 +1,40 @@
+/* Yepidlaw: a P-value calibration engine after DICOM PS3.14.
+ *
+ * Each call takes a job record of any bytes and slices that the caller lends; a slice is a pointer to its first element and the number
+ * of its elements, and may be null where that number is 0. Nothing else is asked of the caller.
+ *
+ * Luminances are in units of 0.0001 cd/m², JND indices in hundredths of a JND. */
+#ifndef YEPIDLAW_H
+#define YEPIDLAW_H
+
+#include <stddef.h>
+#include <stdint.h>
+
+#ifdef __cplusplus
+extern "C" {
+#endif
+
+/* The figures of a nearest table. */
+struct yepidlaw_nearest {
+    uint32_t refusal;   /* 0: the table was made; else the number of the refusal, 1 to 10, and every other field is 0 */
+    uint32_t jlo;       /* JND index of the darkest drive level, hundredths of a JND, 100 to 102,300 */
+    uint32_t jhi;       /* JND index of the brightest drive level, hundredths of a JND, 100 to 102,300 */
+    uint32_t range;     /* jhi - jlo, hundredths of a JND, at least 10,000 */
+    uint32_t room_high; /* the room mark: 0 low, 1 high */
+    uint32_t error;     /* the largest distance of an entry's luminance from its target, units of 0.0001 cd/m² */
+};
+
+/* The nearest table of a job record.
+ *
+ * record, n   the job record and its number of bytes, any bytes
+ * table, m    the entries lent for the table and their number, 256 or more
+ *
+ * Where refusal is 0, table[P] is the drive level of P-value P, 0 to 255, and entries from 256 on are as they were.
+ * Else no entry was changed. */
+struct yepidlaw_nearest yepidlaw_nearest(const uint8_t *record, size_t n, uint16_t *table, size_t m);
+
+#ifdef __cplusplus
+}
+#endif
+
+#endif
