@@ -27,7 +27,7 @@ struct yepidlaw_nearest {
 /* The nearest table of a job record.
  *
  * record, n   the job record and its number of bytes, any bytes
- * table, m    the entries lent for the table and their number, 256 or more
+ * table, m    the entries lent for the table and their number; fewer than 256 are refused, with number 1
  *
  * Where refusal is 0, table[P] is the drive level of P-value P, 0 to 255, and entries from 256 on are as they were.
  * Else no entry was changed. */

@@ -1,7 +1,7 @@
 -- The value between two readings: it is theirs at both ends, never falls, and never leaves what lies between them.
 -- Assumes nothing.
 use mathlib.Core.Path.{_≡_}
-use Prim.Native.Nat.{ℕ, _+_, _-_, _*_, _≤_, _<_}
+use Prim.Native.Nat.{ℕ, _-_, _*_, _≤_, _<_}
 use native.Mathlib.Nat.{mul-zero, zero-div, sub-self, mul-div-cancel, mul-le-mul-left}
 use native.Mathlib.Omega.{arith}
 use Rattle.laws.proofs.Numbers.{quotient-mono}

@@ -1,6 +1,6 @@
 -- The laws of the characteristic curve.
 -- Assumes nothing.
-use mathlib.Core.Path.{_≡_, ap, sym, subst, _∙_}
+use mathlib.Core.Path.{_≡_, sym}
 use mathlib.Core.Logic.{⊎-elim}
 use mathlib.Core.Bool.{Bool}
 use mathlib.Core.List.{List}
@@ -9,16 +9,14 @@ use native.Mathlib.Nat.{le-refl, le-trans, eq-or-lt-of-le, not-suc-le-zero}
 use native.Mathlib.Numerals.{add-one}
 use native.Mathlib.Omega.{arith}
 use lib.ListN.{length, getD}
-use lib.Dec.{T, leb}
+use lib.Dec.{leb}
 use mir.Facts.{leb-yes, yes-leb, clash}
-use Rattle.laws.specs.Search.{lowest}
-use Rattle.laws.specs.Fill.{tab}
 use Rattle.laws.specs.Rises.{NeverFalls}
 use Rattle.laws.proofs.Cases.{le-or-lt}
 use Rattle.laws.proofs.Numbers.{Grows, never-falls}
 use Rattle.laws.proofs.Search.{any-intro, lowest-passes, lowest-le, lowest-is}
 use Rattle.laws.proofs.Fill.{length-tab, getD-tab}
-use Rattle.curve.specs.Curve.{interpolate, pairAt, byPair, curveAt, curveOf, Sweep}
+use Rattle.curve.specs.Curve.{pairAt, byPair, curveAt, curveOf, Sweep}
 use Rattle.curve.proofs.Interpolation.{interpolate-first, interpolate-last, interpolate-low, interpolate-high, interpolate-mono}
 
 -- the pair of neighbours of level d is the one that ends at d or above, where those before it end below d

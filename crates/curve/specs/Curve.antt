@@ -8,7 +8,7 @@ use Rattle.laws.specs.Search.{lowest}
 use Rattle.laws.specs.Fill.{tab}
 use Rattle.laws.specs.Rises.{NeverFalls}
 
--- the luminance at level d between the readings (d1, l1) and (d2, l2), rounded down
+-- the luminance at level d between the readings (d1, l1) and (d2, l2): l1 + floor((l2 − l1) × (d − d1) / (d2 − d1))
 unfoldable pub interpolate : (d1 l1 d2 l2 d : ℕ) → ℕ
 interpolate d1 l1 d2 l2 d = l1 + (l2 - l1) * (d - d1) / (d2 - d1)
 
@@ -24,11 +24,11 @@ byPair ddls luminances i d = interpolate (getD ddls i 0) (getD luminances i 0) (
 unfoldable pub curveAt : (added : ℕ) (ddls luminances : List ℕ) (d : ℕ) → ℕ
 curveAt added ddls luminances d = added + byPair ddls luminances (pairAt ddls d) d
 
--- F(0) to F(top)
+-- F(0) to F(top); top is M of document 01
 unfoldable pub curveOf : (added : ℕ) (ddls luminances : List ℕ) (top : ℕ) → List ℕ
 curveOf added ddls luminances top = tab (curveAt added ddls luminances) (top + 1)
 
--- a sweep over the levels from 0 to top, of two readings or more
+-- a sweep over the levels from 0 to top = M, of two readings or more
 pub record Sweep (ddls luminances : List ℕ) (top : ℕ) : Type 0 where
   pub some : 2 ≤ length ddls
   pub pairs : length luminances ≡ length ddls

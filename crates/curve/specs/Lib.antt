@@ -1,3 +1,4 @@
 pub mod Room
+pub mod Ends
 pub mod Curve
 pub mod Walk

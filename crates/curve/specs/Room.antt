@@ -1,8 +1,7 @@
 -- The light of the room. Luminances are in units of 0.0001 cd/m².
 use Prim.Native.Nat.{ℕ, _*_}
-use mathlib.Core.Bool.{Bool, cond}
-use lib.Dec.{leb, ltb}
-use Rattle.gsdf.specs.DisplayFunction.{jndLuminance}
+use mathlib.Core.Bool.{cond}
+use lib.Dec.{leb}
 use Rattle.record.specs.declared.Meter.{Meter}
 use Rattle.record.specs.declared.Meter.the-variants.{Contact, Telescopic}
 use Rattle.curve.specs.declared.RoomMark.{RoomMark}
@@ -20,10 +19,3 @@ addedLuminance Telescopic room = 0
 -- the room mark, by A0 and the first sweep reading as recorded
 unfoldable pub roomMark : (room first : ℕ) → RoomMark
 roomMark room first = cond (leb (4 * room) first) Low High
-
--- a luminance below T(1), as in test 8, and above T(1023), as in test 9
-unfoldable pub belowTable : ℕ → Bool
-belowTable l = ltb l (jndLuminance 1)
-
-unfoldable pub aboveTable : ℕ → Bool
-aboveTable l = ltb (jndLuminance 1023) l

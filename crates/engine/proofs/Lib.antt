@@ -4,6 +4,7 @@ pub mod Measuring
 pub mod Reading
 pub mod Soundness
 pub mod Ready
+pub mod NearestOutcomes
 pub mod Nearest
 pub mod NearestFacts
 pub mod Refusals

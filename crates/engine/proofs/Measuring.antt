@@ -1,11 +1,10 @@
 -- An accepted job and its sweep: the tests, and what a sound job makes.
 -- Assumes nothing.
-use mathlib.Core.Path.{_≡_, refl, ap, sym, subst, _∙_}
-use mathlib.Core.Bool.{Bool, true, false}
+use mathlib.Core.Path.{_≡_, refl, sym, subst, _∙_}
 use mathlib.Core.Logic.{⊎-elim}
-use mathlib.Core.List.{List, [], _++_}
-use Prim.Native.Nat.{ℕ, _+_, _-_, _≤_, _<_}
-use native.Mathlib.Nat.{eq-or-lt-of-le, le-trans}
+use mathlib.Core.List.{List, _++_}
+use Prim.Native.Nat.{ℕ, _+_, _-_, _≤_}
+use native.Mathlib.Nat.{eq-or-lt-of-le}
 use native.Mathlib.Omega.{arith}
 use lib.ListN.{length, getD, drop}
 use borrow.Author.Tests.{ltb-false}
@@ -13,20 +12,19 @@ use Rattle.laws.proofs.Cases.{by}
 use Rattle.gsdf.specs.Table.{tableB1}
 use Rattle.record.specs.Tests.{maxDdl}
 use Rattle.record.specs.declared.Refusal.{Refusal}
-use Rattle.record.specs.declared.Job.{Job}
-use Rattle.curve.specs.Room.{roomLuminance, addedLuminance, roomMark, belowTable, aboveTable}
+use Rattle.curve.specs.Room.{roomMark}
+use Rattle.curve.specs.Ends.{belowTable, aboveTable}
 use Rattle.curve.specs.Curve.{curveAt, curveOf, Sweep}
 use Rattle.curve.specs.Walk.{Drawable}
 use Rattle.curve.specs.declared.RoomMark.{RoomMark}
-use Rattle.curve.proofs.Room.{not-below, not-above}
+use Rattle.curve.proofs.Ends.{not-below, not-above}
 use Rattle.curve.proofs.Laws as curve
 use Rattle.target.specs.Target.{rangeOf, tooNarrow, targetsOf, Aims}
 use Rattle.target.specs.declared.IndexRange.{IndexRange}
 use Rattle.target.proofs.Laws as target
 use Rattle.target.proofs.Ranges.{range-low, range-high, range-between}
-use Rattle.engine.specs.Sound.{SoundJob, Soundness, sound, unsound, IsSound, roomOf, addedOf, topOf, rangeTests, measured}
-use Rattle.engine.specs.Preparing.{Roomy, Measurable, Prepares}
-use Rattle.engine.specs.declared.Ranged.{Ranged}
+use Rattle.engine.specs.Sound.{SoundJob, Soundness, sound, unsound, rangeTests, measured}
+use Rattle.engine.specs.Preparing.{Prepares}
 use Rattle.engine.specs.declared.Ranged.the-variants.{Wide, Fault}
 use Rattle.engine.specs.declared.Prepared.the-variants.{Ready, SentBack}
 
@@ -80,6 +78,9 @@ module _ {ddls luminances : List ℕ} {top : ℕ} (s : Sweep ddls luminances top
   first-last = s .keep .keeps 0 (length luminances - 1) (omega arith) (omega (arith, s .pairs, s .some))
 
   module _ (added : ℕ) where
+    pub order : added + getD luminances 0 0 ≤ added + getD luminances (length luminances - 1) 0
+    order = omega (arith, first-last)
+
     black-is : curveAt added ddls luminances 0 ≡ added + getD luminances 0 0
     black-is = curve.curve-first s added
 
@@ -102,7 +103,7 @@ module _ {ddls luminances : List ℕ} {top : ℕ} (s : Sweep ddls luminances top
         curve = curveOf added ddls luminances top;
         targets = targetsOf (indices .low .0) (indices .range .0) 255;
         indices = indices;
-        room = roomMark room (getD luminances 0 0);
+        mark = roomMark room (getD luminances 0 0);
       }
 
       pub kept : measured room added top ddls luminances ≡ sound made
@@ -120,25 +121,16 @@ module _ {ddls luminances : List ℕ} {top : ℕ} (s : Sweep ddls luminances top
       pub aims : (table : List ℕ) → table ≡ tableB1 → Aims table (indices .low .0) (indices .range .0) 255
       aims table lent = record {
         lent = lent;
-        first = rw (through .is) (range-low black white);
-        last = rw (through .is) (omega (arith, range-between black white (through .low) order, range-high black white));
+        first = rw (through .is) (range-low _ _);
+        last = rw (through .is) (omega (arith, range-between (added + getD luminances 0 0) (added + getD luminances (length luminances - 1) 0) (through .low) order, range-high (added + getD luminances 0 0) (added + getD luminances (length luminances - 1) 0)));
         some = omega arith;
         most = omega arith;
       }
-        where
-          black : ℕ
-          black = added + getD luminances 0 0
-
-          white : ℕ
-          white = added + getD luminances (length luminances - 1) 0
-
-          order : black ≤ white
-          order = omega (arith, first-last)
 
       pub ready : (mark : RoomMark) (curve₀ curve₁ targets₀ targets₁ : List ℕ) → mark ≡ roomMark room (getD luminances 0 0)
           → curve₁ ≡ curveOf added ddls luminances top ++ drop (top + 1) curve₀
           → targets₁ ≡ targetsOf (indices .low .0) (indices .range .0) 255 ++ drop 256 targets₀
-          → Prepares (measured room added top ddls luminances) (Ready (record { levels = top + 1; indices = indices; room = mark })) curve₀ curve₁ targets₀ targets₁
+          → Prepares (measured room added top ddls luminances) (Ready (record { levels = top + 1; indices = indices; mark = mark })) curve₀ curve₁ targets₀ targets₁
       ready mark curve₀ curve₁ targets₀ targets₁ em ec et =
           let lc : length (curveOf added ddls luminances top) ≡ top + 1 = curve.curve-length s added in
           let lt : length (targetsOf (indices .low .0) (indices .range .0) 255) ≡ 256 = target.targets-length (indices .low .0) (indices .range .0) 255 in

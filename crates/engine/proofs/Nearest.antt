@@ -1,22 +1,23 @@
 -- The nearest table of a record: each way that the operation ends.
 -- Assumes nothing.
-use mathlib.Core.Path.{_≡_, refl, sym, ap, _∙_}
+use mathlib.Core.Path.{_≡_, sym, _∙_}
 use mathlib.Core.List.{List, _++_}
 use Prim.Native.Nat.{ℕ, _≤_, _<_}
 use native.Mathlib.Nat.{eq-or-lt-of-le, le-of-lt, le-refl}
 use native.Mathlib.Omega.{arith}
 use mathlib.Core.Logic.{⊎-elim}
-use lib.ListN.{length, take, getD, drop}
+use lib.ListN.{length, take, drop}
 use borrow.Author.Tests.{le-ltb, lt-ltb}
 use Rattle.laws.specs.Rises.{NeverFalls}
 use Rattle.record.specs.declared.Refusal.{Refusal}
 use Rattle.record.specs.declared.Refusal.the-variants.{LentTooShort}
 use Rattle.units.specs.declared.Luminance.{Luminance}
 use Rattle.nearest.specs.Nearest.{Fillable, Filled, nearestTable, largestError}
-use Rattle.engine.specs.Sound.{SoundJob, Soundness, sound, unsound, soundness, IsSound}
+use Rattle.engine.specs.Sound.{SoundJob, unsound, soundness, IsSound}
 use Rattle.engine.specs.Nearest.{nearestAnswer, nearestLent, NearestPromise}
 use Rattle.engine.specs.declared.Frame.{Frame}
 use Rattle.engine.specs.declared.NearestAnswer.the-variants.{Made, Refused}
+use Rattle.engine.proofs.NearestOutcomes.{promised}
 use Rattle.engine.proofs.Ready.{Readied}
 
 -- targets that rise never fall
@@ -28,29 +29,31 @@ targets-keep s = record {
 module _ (bytes before : List ℕ) where
   pub too-short : length before < 256 → NearestPromise bytes before before (Refused LentTooShort)
   unfolding nearestAnswer nearestLent
-  too-short h = record { answers = simp (lt-ltb _ _ h); table = simp (lt-ltb _ _ h) }
+  too-short h = promised bytes before before (Refused LentTooShort) (simp (lt-ltb _ _ h)) (simp (lt-ltb _ _ h))
 
   module _ (long : 256 ≤ length before) where
     pub back : (r : Refusal) → soundness bytes ≡ unsound r → NearestPromise bytes before before (Refused r)
     unfolding nearestAnswer nearestLent
-    back r e = record { answers = simp (le-ltb _ _ long, e); table = simp (le-ltb _ _ long, e) }
+    back r e = promised bytes before before (Refused r) (simp (le-ltb _ _ long, e)) (simp (le-ltb _ _ long, e))
 
     module _ {f : Frame} {curve targets : List ℕ} (r : Readied (soundness bytes) f curve targets) where
       pub fillable : Fillable (take (f .levels) curve) targets before
       fillable = rw (r .levels, r .values) (record {
-        some = omega (arith, r .known .levels-low);
-        levels = omega (arith, r .known .levels-high);
-        curve-keeps = r .known .curve-keeps;
+        walkable = record {
+          some = omega (arith, r .known .levels-low);
+          levels = omega (arith, r .known .levels-high);
+          never-falls = r .known .curve-keeps;
+        };
         targets-keep = targets-keep (r .known);
         fits = omega (arith, r .known .values);
       })
 
       pub filled : (after : List ℕ) (error : Luminance) → Filled (take (f .levels) curve) targets before after (error .0)
-          → NearestPromise bytes before after (Made (record { indices = f .indices; room = f .room; error = error }))
+          → NearestPromise bytes before after (Made (record { indices = f .indices; mark = f .mark; error = error }))
       unfolding nearestAnswer nearestLent
       filled after error h =
-          let t : after ≡ nearestTable (r .job .curve) (r .job .targets) ++ drop 256 before =
-          h .table ∙ rw (r .levels, r .values, r .known .values) in
+          let t : after ≡ nearestTable (r .job .curve) (r .job .targets) ++ drop (length (r .job .targets)) before =
+          h .table ∙ rw (r .levels, r .values) in
           let l : error .0 ≡ largestError (r .job .curve) (r .job .targets) (nearestTable (r .job .curve) (r .job .targets)) =
           h .largest ∙ rw (r .levels, r .values) in
-          record { answers = simp (le-ltb _ _ long, r .is) (rw (r .indices, r .room, sym l)); table = simp (le-ltb _ _ long, r .is) t }
+          promised bytes before after _ (simp (le-ltb _ _ long, r .is) (rw (r .indices, r .mark, sym l))) (simp (le-ltb _ _ long, r .is) t)

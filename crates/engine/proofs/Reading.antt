@@ -1,16 +1,15 @@
 -- From an accepted record to its measured display.
 -- Assumes nothing.
-use mathlib.Core.Path.{_≡_, refl, sym, ap, _∙_}
+use mathlib.Core.Path.{_≡_, sym, ap, _∙_}
 use mathlib.Core.List.{List}
-use Prim.Native.Nat.{ℕ, suc, _+_, _-_, _≤_, _<_}
+use Prim.Native.Nat.{ℕ, _-_, _≤_}
 use native.Mathlib.Numerals.{add-one}
 use native.Mathlib.Omega.{arith}
-use lib.ListN.{length, take, getD, length-take}
+use lib.ListN.{length, take, length-take}
 use lib.Dec.{leb}
 use mir.Facts.{and-yes, leb-yes}
 use Rattle.laws.proofs.Rises.{keeps-by-steps}
 use Rattle.record.specs.Sections.{sections, ddlsIn, luminancesIn}
-use Rattle.record.specs.Tests.{answerOf}
 use Rattle.record.specs.Reader.{ReadFrom}
 use Rattle.record.specs.Accepted.{AcceptedJob}
 use Rattle.record.specs.declared.Refusal.{Refusal}
@@ -23,7 +22,7 @@ use Rattle.curve.specs.Curve.{Sweep}
 use Rattle.engine.specs.Sound.{Soundness, unsound, roomOf, addedOf, topOf, measured, afterReading, soundness}
 use Rattle.engine.specs.Preparing.{Measurable, Prepares}
 use Rattle.engine.specs.declared.Prepared.{Prepared}
-use Rattle.engine.proofs.Measuring.{top-high, nothing-written}
+use Rattle.engine.proofs.Measuring.{top-high}
 
 pub as-sound : (x y : Soundness) (r : Prepared) (curve₀ curve₁ targets₀ targets₁ : List ℕ) → x ≡ y
     → Prepares y r curve₀ curve₁ targets₀ targets₁ → Prepares x r curve₀ curve₁ targets₀ targets₁

@@ -1,10 +1,10 @@
 -- A sound job at the front of two arrays, as the operations take it over.
 -- Assumes nothing.
 use mathlib.Core.Path.{_≡_, refl, ap, sym, _∙_}
-use mathlib.Core.List.{List, [], _++_, append-nil}
+use mathlib.Core.List.{List, _++_, append-nil}
 use Prim.Native.Nat.{ℕ, _≤_}
 use native.Mathlib.Omega.{arith}
-use lib.ListN.{length, take, drop, length-append, drop-of-length-le}
+use lib.ListN.{length, take, length-append, drop-of-length-le}
 use lib.Seq.{take-append-seam}
 use Rattle.record.specs.declared.Refusal.{Refusal}
 use Rattle.engine.specs.Sound.{SoundJob, Soundness, sound, unsound, soundness, IsSound}
@@ -20,7 +20,7 @@ pub record Readied (x : Soundness) (f : Frame) (curve targets : List ℕ) : Type
   pub is : x ≡ sound job
   pub known : IsSound job
   pub indices : f .indices ≡ job .indices
-  pub room : f .room ≡ job .room
+  pub mark : f .mark ≡ job .mark
   pub fits : f .levels ≤ length curve
   pub levels : take (f .levels) curve ≡ job .curve
   pub values : targets ≡ job .targets
@@ -36,14 +36,14 @@ readied bytes r f curve₀ curve₁ targets₀ targets₁ n h q = go (soundness 
     go (unsound r) e p = absurd (ready-faulted (p .answers))
     go (sound job) e p =
         let known : IsSound job = sound-job bytes job e in
-        let same : f ≡ record { levels = length (job .curve); indices = job .indices; room = job .room } = let a = p .answers in cc in
+        let same : f ≡ record { levels = length (job .curve); indices = job .indices; mark = job .mark } = let a = p .answers in cc in
         let l : f .levels ≡ length (job .curve) = ap (λ (g : Frame). g .levels) same in
         record {
           job = job;
           is = e;
           known = known;
           indices = ap (λ (g : Frame). g .indices) same;
-          room = ap (λ (g : Frame). g .room) same;
+          mark = ap (λ (g : Frame). g .mark) same;
           fits = rw (p .curve, length-append) (omega arith);
           levels = rw (l, p .curve) (take-append-seam (job .curve) _);
           values = p .targets ∙ ap (λ (xs : List ℕ). job .targets ++ xs) (drop-of-length-le targets₀ {i = length (job .targets)} (omega (arith, known .values))) ∙ append-nil (job .targets);

@@ -19,7 +19,7 @@ use Rattle.record.specs.declared.Job.{Job}
 use Rattle.record.specs.declared.Answer.{Answer}
 use Rattle.record.specs.declared.Answer.the-variants.{Accepted, Refused}
 use Rattle.record.proofs.Outcomes.{only-under}
-use Rattle.curve.specs.Room.{belowTable, aboveTable}
+use Rattle.curve.specs.Ends.{belowTable, aboveTable}
 use Rattle.curve.specs.Curve.{curveAt}
 use Rattle.target.specs.Target.{rangeOf, tooNarrow}
 use Rattle.target.specs.declared.IndexRange.{IndexRange}

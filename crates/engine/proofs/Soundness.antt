@@ -1,28 +1,29 @@
 -- What is known of every sound job.
 -- Assumes nothing.
-use mathlib.Core.Path.{_≡_, refl, sym, subst, _∙_}
+use mathlib.Core.Path.{_≡_, refl, ap, sym, subst, _∙_}
 use mathlib.Core.List.{List}
-use Prim.Native.Nat.{ℕ, _+_, _-_, _≤_, _<_}
-use native.Mathlib.Nat.{le-trans}
+use Prim.Native.Nat.{ℕ, _+_, _-_, _≤_, zero-le}
+use native.Mathlib.Nat.{le-refl, le-trans}
 use native.Mathlib.Omega.{arith}
 use lib.ListN.{length, getD}
 use Rattle.record.specs.Sections.{sections, ddlsIn, luminancesIn}
 use Rattle.record.specs.Tests.{answerOf}
 use Rattle.record.specs.Accepted.{AcceptedJob}
 use Rattle.record.specs.declared.Refusal.{Refusal}
-use Rattle.record.specs.declared.Job.{Job}
 use Rattle.record.specs.declared.Answer.{Answer}
 use Rattle.record.specs.declared.Answer.the-variants.{Accepted, Refused}
 use Rattle.record.proofs.Accepted.{accepted-job}
-use Rattle.curve.specs.Curve.{Sweep}
+use Rattle.gsdf.specs.DisplayFunction.{luminanceOf, indexOf}
+use Rattle.curve.specs.Curve.{curveOf, Sweep}
 use Rattle.curve.proofs.Laws as curve
-use Rattle.target.specs.Target.{targetAt, Aims}
+use Rattle.target.specs.Target.{Aims}
 use Rattle.target.specs.declared.IndexRange.{IndexRange}
 use Rattle.target.proofs.Laws as target
-use Rattle.engine.specs.Sound.{SoundJob, Soundness, sound, unsound, IsSound, roomOf, addedOf, topOf, rangeTests, measured, afterReading, soundness}
+use Rattle.target.proofs.Ranges.{range-black, range-white, range-between}
+use Rattle.engine.specs.Sound.{SoundJob, sound, unsound, IsSound, roomOf, addedOf, topOf, rangeTests, measured, soundness}
 use Rattle.engine.specs.declared.Ranged.{Ranged}
 use Rattle.engine.specs.declared.Ranged.the-variants.{Wide, Fault}
-use Rattle.engine.proofs.Measuring.{top-low, top-high, Passed, through, faulted, made, kept, aims}
+use Rattle.engine.proofs.Measuring.{top-low, top-high, order, Passed, through, faulted, made, kept, aims}
 use Rattle.engine.proofs.Reading.{sweep-of}
 use Rattle.gsdf.specs.Table.{tableB1}
 
@@ -45,16 +46,30 @@ module _ {ddls luminances : List ℕ} {top : ℕ} (s : Sweep ddls luminances top
           targets-rise = λ i k h l.
               rw (target.targets-at (indices .low .0) (indices .range .0) 255 i 0 (omega arith), target.targets-at (indices .low .0) (indices .range .0) 255 k 0 (omega arith))
               (target.target-rises (indices .low .0) (indices .range .0) 255 (a .first) (a .last) (a .some) (p .wide) (a .most) i k h (omega arith));
-          curve-low = λ d h.
+          curve-in = λ d h.
               let k : d ≤ top = omega (arith, lc) in
-              rw (curve.curve-level s added d 0 k) (le-trans (p .low) (curve.curve-low s added d k));
-          curve-high = λ d h.
-              let k : d ≤ top = omega (arith, lc) in
-              rw (curve.curve-level s added d 0 k) (le-trans (curve.curve-high s added d k) (rw n at (p .high)));
-          targets-low = λ i h.
-              rw (target.targets-at (indices .low .0) (indices .range .0) 255 i 0 (omega arith)) (target.target-low (indices .low .0) (indices .range .0) 255 (a .first) (a .last) (a .some) i (omega arith));
-          targets-high = λ i h.
-              rw (target.targets-at (indices .low .0) (indices .range .0) 255 i 0 (omega arith)) (target.target-high (indices .low .0) (indices .range .0) 255 (a .first) (a .last) (a .some) i (omega arith));
+              rw (curve.curve-level s added d 0 k) (record {
+                low = le-trans (p .low) (curve.curve-low s added d k);
+                high = le-trans (curve.curve-high s added d k) (rw n at (p .high));
+              });
+          black = ap (λ (i : IndexRange). i .low .0) (p .is) ∙ range-black _ _ ∙ ap indexOf (sym (curve.curve-level s added 0 0 zero-le ∙ curve.curve-first s added));
+          white =
+              let m : top + 1 - 1 ≡ top = omega arith in
+              let w : getD (curveOf added ddls luminances top) (length (curveOf added ddls luminances top) - 1) 0 ≡ added + getD luminances (length luminances - 1) 0 =
+              rw (lc, m, n) (curve.curve-level s added top 0 (le-refl top) ∙ curve.curve-last s added) in
+              ap (λ (i : IndexRange). i .high .0) (p .is) ∙ range-white _ _ ∙ ap indexOf (sym w);
+          between = rw (p .is) (range-between _ _ (p .low) (order s added));
+          wide = p .wide;
+          first = target.targets-at (indices .low .0) (indices .range .0) 255 0 0 (omega arith) ∙ target.target-first (indices .low .0) (indices .range .0) 255 (a .first) (a .last) (a .some);
+          last =
+              target.targets-at (indices .low .0) (indices .range .0) 255 255 0 (omega arith)
+              ∙ target.target-last (indices .low .0) (indices .range .0) 255 (a .first) (a .last) (a .some)
+              ∙ ap luminanceOf (rw (p .is) (range-between _ _ (p .low) (order s added)));
+          targets-in = λ i h.
+              rw (target.targets-at (indices .low .0) (indices .range .0) 255 i 0 (omega arith)) (record {
+                low = target.target-low (indices .low .0) (indices .range .0) 255 (a .first) (a .last) (a .some) i (omega arith);
+                high = target.target-high (indices .low .0) (indices .range .0) 255 (a .first) (a .last) (a .some) i (omega arith);
+              });
         }
 
   measured-sound : (job : SoundJob) → measured room added top ddls luminances ≡ sound job → IsSound job

@@ -13,6 +13,9 @@ pub record MadeTable (bytes before after : List ℕ) (figures : NearestFigures) 
   pub job : SoundJob
   pub is : soundness bytes ≡ sound job
   pub known : IsSound job
+  -- Jlo, Jhi, N and the room mark are its
+  pub indices : figures .indices ≡ job .indices
+  pub mark : figures .mark ≡ job .mark
   -- the first 256 entries: each is a level of the display, none nearer to the target, and each lower one farther
   pub entries : (p : ℕ) → p < 256 → getD after p 0 ≡ nearestLevel (job .curve) (getD (job .targets) p 0)
   pub levels : (p : ℕ) → p < 256 → getD after p 0 < length (job .curve)
@@ -20,7 +23,8 @@ pub record MadeTable (bytes before after : List ℕ) (figures : NearestFigures) 
   pub first : (p d : ℕ) → p < 256 → d < getD after p 0 → errorAt (job .curve) (getD (job .targets) p 0) (getD after p 0) < errorAt (job .curve) (getD (job .targets) p 0) d
   -- they never fall
   pub keeps : (p q : ℕ) → p ≤ q → q < 256 → getD after p 0 ≤ getD after q 0
-  -- the later ones are as before
+  -- the later ones are as before, and as many
+  pub size : length after ≡ length before
   pub later : (i : ℕ) → 256 ≤ i → getD after i 0 ≡ getD before i 0
   -- the figure is at least each entry's error, and no smaller number is
   pub largest : (p : ℕ) → p < 256 → errorAt (job .curve) (getD (job .targets) p 0) (getD after p 0) ≤ figures .error .0

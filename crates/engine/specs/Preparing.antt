@@ -6,7 +6,6 @@ use lib.ListN.{length, take, drop}
 use Rattle.record.specs.declared.Job.{Job}
 use Rattle.curve.specs.Curve.{Sweep}
 use Rattle.engine.specs.Sound.{Soundness, sound, unsound, topOf}
-use Rattle.engine.specs.declared.Frame.{Frame}
 use Rattle.engine.specs.declared.Prepared.{Prepared}
 use Rattle.engine.specs.declared.Prepared.the-variants.{Ready, SentBack}
 
@@ -20,11 +19,11 @@ targetsIn (sound job) = job .targets
 targetsIn (unsound r) = []
 
 abbrev pub preparedOf : Soundness → Prepared
-preparedOf (sound job) = Ready (record { levels = length (job .curve); indices = job .indices; room = job .room })
+preparedOf (sound job) = Ready (record { levels = length (job .curve); indices = job .indices; mark = job .mark })
 preparedOf (unsound r) = SentBack r
 
--- two arrays that are long enough
-pub record Roomy (curve targets : List ℕ) : Type 0 where
+-- an array for the curve, and one for the targets
+pub record Arrays (curve targets : List ℕ) : Type 0 where
   pub levels : length curve ≡ 1024
   pub values : length targets ≡ 256
 

@@ -1,10 +1,11 @@
 -- What a sound job makes, and what sends the others back: tests 2 to 10 in their order, for all operations.
-use Prim.Native.Nat.{ℕ, _≤_, _<_}
+use Prim.Native.Nat.{ℕ, _+_, _-_, _≤_, _<_}
 use mathlib.Core.Path.{_≡_}
 use mathlib.Core.List.{List}
 use mathlib.Core.Bool.{cond}
 use lib.ListN.{length, getD}
 use Rattle.laws.specs.Rises.{NeverFalls}
+use Rattle.gsdf.specs.DisplayFunction.{luminanceOf, indexOf, InTable}
 use Rattle.record.specs.Sections.{sections, ddlsIn, luminancesIn}
 use Rattle.record.specs.Tests.{maxDdl, answerOf}
 use Rattle.record.specs.declared.Refusal.{Refusal}
@@ -12,7 +13,8 @@ use Rattle.record.specs.declared.Refusal.the-variants.{BlackBelowTable, WhiteAb
 use Rattle.record.specs.declared.Job.{Job}
 use Rattle.record.specs.declared.Answer.{Answer}
 use Rattle.record.specs.declared.Answer.the-variants.{Accepted, Refused}
-use Rattle.curve.specs.Room.{roomLuminance, addedLuminance, roomMark, belowTable, aboveTable}
+use Rattle.curve.specs.Room.{roomLuminance, addedLuminance, roomMark}
+use Rattle.curve.specs.Ends.{belowTable, aboveTable}
 use Rattle.curve.specs.Curve.{curveAt, curveOf}
 use Rattle.curve.specs.declared.RoomMark.{RoomMark}
 use Rattle.target.specs.Target.{rangeOf, tooNarrow, targetsOf}
@@ -29,7 +31,7 @@ pub record SoundJob : Type 0 where
   -- Jlo, Jhi and N
   pub indices : IndexRange
   -- the room mark
-  pub room : RoomMark
+  pub mark : RoomMark
 
 -- a job is sound, or is sent back
 pub data Soundness : Type 0 where
@@ -69,7 +71,7 @@ measured room added top ddls luminances = after (rangeTests (F 0) (F top))
       curve = curveOf added ddls luminances top;
       targets = targetsOf (indices .low .0) (indices .range .0) 255;
       indices = indices;
-      room = roomMark room (getD luminances 0 0);
+      mark = roomMark room (getD luminances 0 0);
     })
 
 -- what follows the reading of a record and tests 2 to 7
@@ -83,15 +85,19 @@ soundness bytes = afterReading (answerOf bytes) (ddlsIn (sections bytes)) (lumin
 
 -- what is known of each sound job
 pub record IsSound (job : SoundJob) : Type 0 where
-  -- 256, 512 or 1,024 levels, whose luminances never fall
+  -- 256 to 1,024 levels, whose luminances never fall and lie in the range of Table B-1
   pub levels-low : 256 ≤ length (job .curve)
   pub levels-high : length (job .curve) ≤ 1024
   pub curve-keeps : NeverFalls (job .curve)
-  -- 256 targets, which rise strictly
+  pub curve-in : (d : ℕ) → d < length (job .curve) → InTable (getD (job .curve) d 0)
+  -- Jlo = J(F(0)), Jhi = J(F(M)), and N is what lies between them, 10,000 or more
+  pub black : job .indices .low .0 ≡ indexOf (getD (job .curve) 0 0)
+  pub white : job .indices .high .0 ≡ indexOf (getD (job .curve) (length (job .curve) - 1) 0)
+  pub between : job .indices .low .0 + job .indices .range .0 ≡ job .indices .high .0
+  pub wide : 10000 ≤ job .indices .range .0
+  -- 256 targets, from G(Jlo) to G(Jhi), which rise strictly and lie in that range too
   pub values : length (job .targets) ≡ 256
+  pub first : getD (job .targets) 0 0 ≡ luminanceOf (job .indices .low .0)
+  pub last : getD (job .targets) 255 0 ≡ luminanceOf (job .indices .high .0)
   pub targets-rise : (p q : ℕ) → p < q → q < 256 → getD (job .targets) p 0 < getD (job .targets) q 0
-  -- all of them in the range of Table B-1
-  pub curve-low : (d : ℕ) → d < length (job .curve) → 500 ≤ getD (job .curve) d 0
-  pub curve-high : (d : ℕ) → d < length (job .curve) → getD (job .curve) d 0 ≤ 39934040
-  pub targets-low : (p : ℕ) → p < 256 → 500 ≤ getD (job .targets) p 0
-  pub targets-high : (p : ℕ) → p < 256 → getD (job .targets) p 0 ≤ 39934040
+  pub targets-in : (p : ℕ) → p < 256 → InTable (getD (job .targets) p 0)

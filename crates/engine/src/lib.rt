@@ -1,12 +1,12 @@
 // The operations on a job record: the tests in their order, then the layers below.
 ghost use mathlib.Core.Path.{_≡_};
-ghost use lib.ListN.{length, take};
+ghost use lib.ListN.{take};
 ghost use Prim.Native.Nat.{_+_, _≤_};
 ghost use Rattle.curve.specs.Curve.{Sweep};
 ghost use Rattle.record.specs.declared.Answer.the-variants.{Accepted};
 ghost use Rattle.gsdf.specs.Table.{tableB1};
 ghost use Rattle.engine.specs.Sound.{soundness, measured, afterReading, rangeTests};
-ghost use Rattle.engine.specs.Preparing.{Roomy, Measurable, Prepares};
+ghost use Rattle.engine.specs.Preparing.{Arrays, Measurable, Prepares};
 ghost use Rattle.engine.specs.Nearest.{NearestPromise};
 use curve::RoomMark;
 use record::Answer;
@@ -28,7 +28,7 @@ pub struct Frame {
     // How many drive levels the display has.
     pub levels: usize,
     pub indices: IndexRange,
-    pub room: RoomMark,
+    pub mark: RoomMark,
 }
 
 pub enum Prepared {
@@ -39,7 +39,7 @@ pub enum Prepared {
 // The figures of a nearest table: Jlo, Jhi and N, the room mark, and the largest error over its entries.
 pub struct NearestFigures {
     pub indices: IndexRange,
-    pub room: RoomMark,
+    pub mark: RoomMark,
     pub error: Luminance,
 }
 
@@ -49,8 +49,8 @@ pub enum NearestAnswer {
 }
 
 // Tests 8, 9 and 10, by the first and the last reading and the light added to them, with Table B-1 lent.
-fn test_range(table: &[u32; 1023], added: Luminance, first: Luminance, last: Luminance) -> Ranged
-    requires { ⌜ (now table ≡ tableB1) × (first .0 ≤ last .0) ⌝ }
+fn test_range(b1: &[u32; 1023], added: Luminance, first: Luminance, last: Luminance) -> Ranged
+    requires { ⌜ (now b1 ≡ tableB1) × (first .0 ≤ last .0) ⌝ }
     ensures { λ r. ⌜ r ≡ rangeTests (added .0 + first .0) (added .0 + last .0) ⌝ }
 {
     if curve::is_below_table(added, first) {
@@ -64,7 +64,7 @@ fn test_range(table: &[u32; 1023], added: Luminance, first: Luminance, last: Lum
     let brightest = last.0;
     let black = light + darkest;
     let white = light + brightest;
-    let indices = target::index_range(table, Luminance(black), Luminance(white));
+    let indices = target::index_range(b1, Luminance(black), Luminance(white));
     let range = indices.range;
     if target::is_too_narrow(range) {
         return Ranged::Fault(Refusal::RangeTooNarrow);
@@ -82,7 +82,7 @@ fn measure(
     curve: &mut [u32],
     targets: &mut [u32],
 ) -> Prepared
-    requires { ⌜ (top .0 ≤ 1023) × Sweep (now ddls) (now luminances) (top .0) × Roomy (now curve) (now targets) ⌝ }
+    requires { ⌜ (top .0 ≤ 1023) × Sweep (now ddls) (now luminances) (top .0) × Arrays (now curve) (now targets) ⌝ }
     ensures { λ r. ⌜ Prepares (measured (room .0) (added .0) (top .0) (now (ddls .entry)) (now (luminances .entry))) r (now (curve .entry)) (now (curve .exit)) (now (targets .entry)) (now (targets .exit)) ⌝ }
 {
     let end = luminances.len() - 1;
@@ -90,22 +90,22 @@ fn measure(
     let brightest = luminances[end];
     let first = Luminance(darkest);
     let last = Luminance(brightest);
-    let table = gsdf::table_b1();
-    let found = test_range(&table, added, first, last);
+    let b1 = gsdf::table_b1();
+    let found = test_range(&b1, added, first, last);
     match found {
         Ranged::Fault(r) => Prepared::SentBack(r),
         Ranged::Wide(indices) => {
             curve::fill_curve(ddls, luminances, top, added, curve);
             let low = indices.low;
             let range = indices.range;
-            target::fill_targets(&table, low, range, PValue(255), targets);
+            target::fill_targets(&b1, low, range, PValue(255), targets);
             let mark = curve::room_mark(room, first);
             let highest = top.0;
             let levels = highest as usize + 1;
             Prepared::Ready(Frame {
                 levels: levels,
                 indices: indices,
-                room: mark,
+                mark: mark,
             })
         }
     }
@@ -120,7 +120,7 @@ fn measure_job<'a>(
     curve: &mut [u32],
     targets: &mut [u32],
 ) -> Prepared
-    requires { ⌜ Measurable job (now ddls) (now luminances) n × Roomy (now curve) (now targets) ⌝ }
+    requires { ⌜ Measurable job (now ddls) (now luminances) n × Arrays (now curve) (now targets) ⌝ }
     ensures { λ r. ⌜ Prepares (afterReading (Accepted job) (take n (now (ddls .entry))) (take n (now (luminances .entry)))) r (now (curve .entry)) (now (curve .exit)) (now (targets .entry)) (now (targets .exit)) ⌝ }
 {
     let settings = job.settings;
@@ -144,7 +144,7 @@ fn measure_job<'a>(
 
 // Tests 2 to 10 of a record, its curve and its targets.
 fn prepare(bytes: &[u8], curve: &mut [u32], targets: &mut [u32]) -> Prepared
-    requires { ⌜ Roomy (now curve) (now targets) ⌝ }
+    requires { ⌜ Arrays (now curve) (now targets) ⌝ }
     ensures { λ r. ⌜ Prepares (soundness (now (bytes .entry))) r (now (curve .entry)) (now (curve .exit)) (now (targets .entry)) (now (targets .exit)) ⌝ }
 {
     let found = record::read_record(bytes);
@@ -174,10 +174,10 @@ pub fn nearest_table(bytes: &[u8], table: &mut [u16]) -> NearestAnswer
             let levels = frame.levels;
             let error = nearest::fill_table(&curve[..levels], &targets, table);
             let indices = frame.indices;
-            let room = frame.room;
+            let mark = frame.mark;
             NearestAnswer::Made(NearestFigures {
                 indices: indices,
-                room: room,
+                mark: mark,
                 error: error,
             })
         }

@@ -10,8 +10,8 @@ use borrow.Author.Count.{below-more}
 use lib.ListN.{length, getD}
 use Rattle.laws.specs.Rises.{NeverFalls}
 use Rattle.laws.proofs.Cases.{le-or-lt}
-use Rattle.nearest.specs.Nearest.{errorAt}
-use Rattle.nearest.specs.Places.{Walkable, NotPast, PlaceOf, EntryOf}
+use Rattle.nearest.specs.Nearest.{errorAt, Walkable}
+use Rattle.nearest.specs.Places.{NotPast, PlaceOf, EntryOf}
 use Rattle.nearest.proofs.Laws.{nearest-is}
 
 -- ---- the walk

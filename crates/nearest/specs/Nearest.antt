@@ -30,11 +30,15 @@ nearestTable curve targets = tab (λ p. nearestLevel curve (getD targets p 0)) (
 unfoldable pub largestError : (curve targets table : List ℕ) → ℕ
 largestError curve targets table = maxOf (λ p. errorAt curve (getD targets p 0) (getD table p 0)) (length targets)
 
--- what the table asks: some level, each a 16-bit number; a curve and targets that never fall; a slice that is long enough
-pub record Fillable (curve targets table : List ℕ) : Type 0 where
+-- what is asked of a curve: some level, each a 16-bit number, and luminances that never fall
+pub record Walkable (curve : List ℕ) : Type 0 where
   pub some : 1 ≤ length curve
   pub levels : length curve ≤ 65536
-  pub curve-keeps : NeverFalls curve
+  pub never-falls : NeverFalls curve
+
+-- what the table asks: such a curve, targets that never fall, a slice that is long enough
+pub record Fillable (curve targets table : List ℕ) : Type 0 where
+  pub walkable : Walkable curve
   pub targets-keep : NeverFalls targets
   pub fits : length targets ≤ length table
 

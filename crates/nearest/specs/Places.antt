@@ -3,14 +3,7 @@ use Prim.Native.Nat.{ℕ, _-_, _≤_, _<_}
 use mathlib.Core.Path.{_≡_}
 use mathlib.Core.List.{List}
 use lib.ListN.{length, getD}
-use Rattle.laws.specs.Rises.{NeverFalls}
 use Rattle.nearest.specs.Nearest.{errorAt, nearestLevel}
-
--- what the walk asks of a curve: some level, each a 16-bit number, and luminances that never fall
-pub record Walkable (curve : List ℕ) : Type 0 where
-  pub some : 1 ≤ length curve
-  pub levels : length curve ≤ 65536
-  pub never-falls : NeverFalls curve
 
 -- a place that is not past t: the levels under `above` are darker than t, and `below` is the lowest of them that is as bright as the last;
 -- it is 0 where there are none

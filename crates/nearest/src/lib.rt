@@ -3,8 +3,8 @@
 ghost use mathlib.Core.Path.{_≡_};
 ghost use Prim.Native.Nat.{max};
 ghost use Rattle.laws.specs.Numbers.{distance};
-ghost use Rattle.nearest.specs.Nearest.{Fillable, Filled};
-ghost use Rattle.nearest.specs.Places.{Walkable, NotPast, PlaceOf, EntryOf};
+ghost use Rattle.nearest.specs.Nearest.{Walkable, Fillable, Filled};
+ghost use Rattle.nearest.specs.Places.{NotPast, PlaceOf, EntryOf};
 use units::Ddl;
 use units::Luminance;
 

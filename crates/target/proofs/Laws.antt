@@ -1,9 +1,8 @@
 -- The laws of the targets.
 -- Assumes nothing.
 use mathlib.Core.Path.{_≡_, ap}
-use mathlib.Core.List.{List}
-use Prim.Native.Nat.{ℕ, _+_, _-_, _*_, _/_, _≤_, _<_, zero-le}
-use native.Mathlib.Nat.{mul-zero, zero-div, mul-div-cancel, mul-le-mul-left, mul-le-mul, add-mul-div-right}
+use Prim.Native.Nat.{ℕ, _+_, _-_, _*_, _≤_, _<_, zero-le}
+use native.Mathlib.Nat.{mul-zero, zero-div, mul-div-cancel, mul-le-mul-left, add-mul-div-right}
 use native.Mathlib.Omega.{arith}
 use lib.ListN.{length, getD}
 use Rattle.laws.specs.Rises.{NeverFalls}

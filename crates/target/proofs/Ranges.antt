@@ -10,6 +10,14 @@ use Rattle.target.specs.Target.{rangeOf, HasRange}
 use Rattle.gsdf.proofs.Laws.{index-low, index-high, index-mono}
 
 module _ (black white : ℕ) where
+  pub range-black : rangeOf black white .low .0 ≡ indexOf black
+  unfolding rangeOf
+  range-black = refl
+
+  pub range-white : rangeOf black white .high .0 ≡ indexOf white
+  unfolding rangeOf
+  range-white = refl
+
   -- Jlo and Jhi are indices
   pub range-low : 100 ≤ rangeOf black white .low .0
   unfolding rangeOf

@@ -1,13 +1,12 @@
 -- The index range of a display, and the target luminance of each P-value.
-use Prim.Native.Nat.{ℕ, _+_, _-_, _*_, _/_, _≤_, _<_}
+use Prim.Native.Nat.{ℕ, _+_, _-_, _*_, _/_, _≤_}
 use mathlib.Core.Path.{_≡_}
 use mathlib.Core.List.{List}
 use mathlib.Core.Bool.{Bool}
-use lib.ListN.{length}
 use lib.Dec.{ltb}
 use Rattle.laws.specs.Fill.{tab}
 use Rattle.gsdf.specs.Table.{tableB1}
-use Rattle.gsdf.specs.DisplayFunction.{luminanceOf, indexOf, IsIndex, InTable}
+use Rattle.gsdf.specs.DisplayFunction.{luminanceOf, indexOf, InTable}
 use Rattle.target.specs.declared.IndexRange.{IndexRange}
 
 -- Jlo, Jhi and N of document 01, by the luminances of black and white
@@ -18,7 +17,7 @@ rangeOf black white = record {
   range = record { 0 = indexOf white - indexOf black };
 }
 
--- a range that test 10 refuses
+-- N that test 10 refuses
 abbrev pub tooNarrow : (range : ℕ) → Bool
 tooNarrow range = ltb range 10000
 

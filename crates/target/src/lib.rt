@@ -9,7 +9,7 @@ use units::JndRange;
 use units::Luminance;
 use units::PValue;
 
-// The indices of black and of white, and how far they are apart.
+// Jlo and Jhi, the indices of black and of white, and N, how far they are apart.
 pub struct IndexRange {
     pub low: JndIndex,
     pub high: JndIndex,

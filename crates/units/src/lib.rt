@@ -15,7 +15,7 @@ pub struct PValue(pub u16);
 // JND index in hundredths of a JND, 100 to 102,300.
 pub struct JndIndex(pub u32);
 
-// Difference of two JND indices, in hundredths of a JND, 0 to 102,200.
+// Difference of two JND indices (N), in hundredths of a JND, 0 to 102,200.
 pub struct JndRange(pub u32);
 
 // Diffuse reflectance of the screen's face (Rd) in units of 0.0001 per steradian, 0 to 1,000.

@@ -10,21 +10,21 @@ use Rattle.engine.specs.declared.NearestFigures.{NearestFigures}
 use Rattle.engine.specs.declared.NearestAnswer.{NearestAnswer}
 use Rattle.engine.specs.declared.NearestAnswer.the-variants.{Made, Refused}
 use Rattle.yepidlaw.specs.declared.NearestResult.{NearestResult}
-use Rattle.yepidlaw.specs.Nearest.{roomNumber, resultOf, NearestCall}
+use Rattle.yepidlaw.specs.Nearest.{markNumber, resultOf, NearestCall}
 
-pub result-made : {answer : NearestAnswer} {figures : NearestFigures} {room : ℕ} → answer ≡ Made figures → room ≡ roomNumber (figures .room)
+pub result-made : {answer : NearestAnswer} {figures : NearestFigures} {mark : ℕ} → answer ≡ Made figures → mark ≡ markNumber (figures .mark)
     → record {
       refusal = 0;
       jlo = figures .indices .low .0;
       jhi = figures .indices .high .0;
       range = figures .indices .range .0;
-      room = room;
+      mark = mark;
       error = figures .error .0;
     } ≡ resultOf answer
 result-made e f = rw (e, f)
 
 pub result-refused : {answer : NearestAnswer} {r : Refusal} {n : ℕ} → answer ≡ Refused r → n ≡ refusalNumber r
-    → record { refusal = n; jlo = 0; jhi = 0; range = 0; room = 0; error = 0 } ≡ resultOf answer
+    → record { refusal = n; jlo = 0; jhi = 0; range = 0; mark = 0; error = 0 } ≡ resultOf answer
 result-refused e f = rw (e, f)
 
 pub called : {bytes before after : List ℕ} {answer : NearestAnswer} {result : NearestResult}

@@ -11,9 +11,10 @@ use Rattle.engine.specs.declared.NearestAnswer.{NearestAnswer}
 use Rattle.engine.specs.declared.NearestAnswer.the-variants.{Made, Refused}
 use Rattle.yepidlaw.specs.declared.NearestResult.{NearestResult}
 
-abbrev pub roomNumber : RoomMark → ℕ
-roomNumber Low = 0
-roomNumber High = 1
+-- the room mark in the result; document 01 has words alone
+abbrev pub markNumber : RoomMark → ℕ
+markNumber Low = 0
+markNumber High = 1
 
 -- refusal 0 and the figures, or the refusal's number and 0 for each figure
 abbrev pub resultOf : NearestAnswer → NearestResult
@@ -22,7 +23,7 @@ resultOf (Made figures) = record {
   jlo = figures .indices .low .0;
   jhi = figures .indices .high .0;
   range = figures .indices .range .0;
-  room = roomNumber (figures .room);
+  mark = markNumber (figures .mark);
   error = figures .error .0;
 }
 resultOf (Refused r) = record {
@@ -30,7 +31,7 @@ resultOf (Refused r) = record {
   jlo = 0;
   jhi = 0;
   range = 0;
-  room = 0;
+  mark = 0;
   error = 0;
 }
 

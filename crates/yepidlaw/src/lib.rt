@@ -1,6 +1,6 @@
 // The engine's operations through the C ABI; include/yepidlaw.h declares them.
 ghost use mathlib.Core.Path.{_≡_};
-ghost use Rattle.yepidlaw.specs.Nearest.{roomNumber, resultOf, NearestCall};
+ghost use Rattle.yepidlaw.specs.Nearest.{markNumber, resultOf, NearestCall};
 use curve::RoomMark;
 use engine::NearestAnswer;
 
@@ -11,17 +11,18 @@ pub struct NearestResult {
     // Indices in hundredths of a JND.
     pub jlo: u32,
     pub jhi: u32,
+    // jhi − jlo, N.
     pub range: u32,
-    // 0 low, 1 high.
-    pub room: u32,
+    // The room mark: 0 low, 1 high.
+    pub mark: u32,
     // The largest error over the table, in units of 0.0001 cd/m².
     pub error: u32,
 }
 
-fn room_number(room: RoomMark) -> u32
-    ensures { λ r. ⌜ r ≡ roomNumber room ⌝ }
+fn mark_number(mark: RoomMark) -> u32
+    ensures { λ r. ⌜ r ≡ markNumber mark ⌝ }
 {
-    match room {
+    match mark {
         RoomMark::Low => 0,
         RoomMark::High => 1,
     }
@@ -36,19 +37,19 @@ fn nearest_result(answer: NearestAnswer) -> NearestResult
             let low = indices.low;
             let high = indices.high;
             let width = indices.range;
-            let mark = figures.room;
+            let room = figures.mark;
             let largest = figures.error;
             let jlo = low.0;
             let jhi = high.0;
             let range = width.0;
             let error = largest.0;
-            let room = room_number(mark);
+            let mark = mark_number(room);
             NearestResult {
                 refusal: 0,
                 jlo: jlo,
                 jhi: jhi,
                 range: range,
-                room: room,
+                mark: mark,
                 error: error,
             }
         }
@@ -59,7 +60,7 @@ fn nearest_result(answer: NearestAnswer) -> NearestResult
                 jlo: 0,
                 jhi: 0,
                 range: 0,
-                room: 0,
+                mark: 0,
                 error: 0,
             }
         }

@@ -1,4 +1,4 @@
-use Rattle.curve.proofs.Room.{above-is}
+use Rattle.curve.proofs.Ends.{above-is}
 use borrow.Author.Needs.{needs}
 use Rattle.curve.proofs.is_above_table.Statement.{statement}
 use Rattle.curve.proofs.is_above_table.Tie as tie

@@ -1,4 +1,4 @@
-use Rattle.curve.proofs.Room.{below-is}
+use Rattle.curve.proofs.Ends.{below-is}
 use borrow.Author.Needs.{needs}
 use Rattle.curve.proofs.is_below_table.Statement.{statement}
 use Rattle.curve.proofs.is_below_table.Tie as tie

@@ -1,6 +1,6 @@
 use native.Mathlib.Omega.{arith}
 use borrow.Author.Needs.{needs}
-use mathlib.Core.Path.{sym, refl}
+use mathlib.Core.Path.{sym}
 use lib.Seq.{length-take-le}
 use Rattle.engine.proofs.Ready.{readied, sent-back}
 use Rattle.engine.proofs.Nearest.{too-short, back, fillable, filled}

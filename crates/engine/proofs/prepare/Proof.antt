@@ -1,5 +1,4 @@
 use borrow.Author.Needs.{needs}
-use mathlib.Core.Path.{sym, subst}
 use Rattle.engine.proofs.Measuring.{nothing-written}
 use Rattle.engine.proofs.Reading.{measurable, sound-as, unread, as-sound}
 use Rattle.engine.proofs.prepare.Statement.{statement}

@@ -25,7 +25,7 @@ next-entry-requires : tie.Need-next-entry-requires Inv-loop μ-loop
 next-entry-requires c κs =
     let asked = c .before .before .before .before .before .before .pre in
     let loop = c .before .before .loop in (
-      record { some = asked .some; levels = asked .levels; never-falls = asked .curve-keeps },
+      asked .walkable,
       loop .inv .ahead _ (omega arith) (omega arith),
     )
 

@@ -1,6 +1,6 @@
 use native.Mathlib.Omega.{arith}
 use borrow.Author.Needs.{needs}
-use mathlib.Core.Path.{_∙_, sym}
+use mathlib.Core.Path.{_∙_}
 use Prim.Native.Nat.{_-_, _≤_}
 use Rattle.laws.proofs.Fill.{Copied, copied-none, copied-more, copied-all, copied-length}
 use Rattle.target.specs.Target.{targetsOf}

@@ -5,15 +5,15 @@ use Rattle.yepidlaw.proofs.nearest_result.Tie as tie
 use Rattle.yepidlaw.proofs.nearest_result.Reads as reads
 use Rattle.yepidlaw.proofs.nearest_result.Lts as lts
 use Rattle.record.proofs.refusal_number.Reads as refusal-number-reads
-use Rattle.yepidlaw.proofs.room_number.Reads as room-number-reads
+use Rattle.yepidlaw.proofs.mark_number.Reads as mark-number-reads
 
 -- src/lib.rt:34:29
 enum-known-answer : tie.Need-enum-known-answer
 enum-known-answer c = search needs
 
 -- src/lib.rt:45:17
-room-number-requires : tie.Need-room-number-requires
-room-number-requires c κs = search needs
+mark-number-requires : tie.Need-mark-number-requires
+mark-number-requires c κs = search needs
 
 -- src/lib.rt:55:32
 enum-known-answer-2 : tie.Need-enum-known-answer-2
@@ -25,7 +25,7 @@ refusal-number-requires c κs = search needs
 
 -- src/lib.rt:30:1
 returns : tie.Need-returns
-returns c = result-made (c .before .before .before .before .before .before .before .answer .given .1) (c .room-number .ensures)
+returns c = result-made (c .before .before .before .before .before .before .before .answer .given .1) (c .mark-number .ensures)
 
 -- src/lib.rt:30:1
 returns-2 : tie.Need-returns-2
@@ -36,7 +36,7 @@ nearest-result-spec =
     tie.close
     (tie.spec
     enum-known-answer
-    room-number-requires
+    mark-number-requires
     enum-known-answer-2
     refusal-number-requires
     returns
