@@ -16,6 +16,7 @@ use Rattle.target.specs.Target.{rangeOf, tooNarrow}
 use Rattle.target.proofs.Laws.{targets-length}
 use Rattle.engine.specs.Sound.{Soundness, rangeTests, measured, soundness, topOf}
 use Rattle.engine.specs.Nearest.{nearestOf, nearestAnswer, entriesOver, nearestLent, NearestValues, valuesOf, F, jlo, N, table, Accepts, NearestOutcome, short, unread, black, white, narrow, made, NearestPromise}
+use Rattle.engine.specs.NearestFacts.{Settled}
 use Rattle.engine.specs.declared.NearestAnswer.{NearestAnswer}
 
 module _ (bytes before : List ℕ) where
@@ -58,10 +59,6 @@ module _ (bytes before : List ℕ) where
   promised after answer e f = record { answers = e; table = f; outcome = rw (e, f) some-outcome }
 
 -- an outcome settles the answer and the entries, so no two outcomes of one record and one slice differ
-pub record Settled (bytes before after : List ℕ) (v : NearestValues) : Type 0 where
-  pub entries : after ≡ nearestLent bytes before
-  pub values-are : v ≡ valuesOf (nearestAnswer bytes (length before))
-
 pub settles : {bytes before after : List ℕ} {v : NearestValues} → NearestOutcome bytes before after v → Settled bytes before after v
 unfolding nearestAnswer nearestLent soundness measured rangeTests belowTable aboveTable rangeOf
 settles (short h) = record { entries = simp (lt-ltb _ _ h); values-are = simp (lt-ltb _ _ h) }

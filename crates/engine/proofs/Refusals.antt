@@ -25,15 +25,11 @@ use Rattle.target.specs.Target.{rangeOf, tooNarrow}
 use Rattle.target.specs.declared.IndexRange.{IndexRange}
 use Rattle.engine.specs.Sound.{SoundJob, Soundness, sound, unsound, roomOf, addedOf, topOf, rangeTests, measured, soundness}
 use Rattle.engine.specs.Nearest.{nearestOf, nearestAnswer}
+use Rattle.engine.specs.NearestFacts.{Numbered}
 use Rattle.engine.specs.declared.Ranged.{Ranged}
 use Rattle.engine.specs.declared.Ranged.the-variants.{Wide, Fault}
 use Rattle.engine.specs.declared.NearestFigures.{NearestFigures}
 use Rattle.engine.specs.declared.NearestAnswer.the-variants as nearest
-
--- r is numbered from low to high
-pub record Numbered (low high : ℕ) (r : Refusal) : Type 0 where
-  pub from : low ≤ refusalNumber r
-  pub to : refusalNumber r ≤ high
 
 numbered : (low high : ℕ) {q r : Refusal} → q ≡ r → T (leb low (refusalNumber q) && leb (refusalNumber q) high) → Numbered low high r
 numbered low high {q = q} e t =

@@ -1,10 +1,13 @@
--- What follows from the promise of the nearest table, entry by entry.
+-- What follows from the promise of the nearest table.
 use Prim.Native.Nat.{ℕ, _≤_, _<_}
 use mathlib.Core.Path.{_≡_}
 use mathlib.Core.List.{List}
 use lib.ListN.{length, getD}
 use Rattle.nearest.specs.Nearest.{errorAt, nearestLevel}
+use Rattle.record.specs.Refusals.{refusalNumber}
+use Rattle.record.specs.declared.Refusal.{Refusal}
 use Rattle.engine.specs.Sound.{SoundJob, sound, soundness, IsSound}
+use Rattle.engine.specs.Nearest.{NearestValues, valuesOf, nearestAnswer, nearestLent}
 use Rattle.engine.specs.declared.NearestFigures.{NearestFigures}
 
 -- a table that was made, of 256 entries or more that were lent
@@ -29,3 +32,13 @@ pub record MadeTable (bytes before after : List ℕ) (figures : NearestFigures) 
   -- the figure is at least each entry's error, and no smaller number is
   pub largest : (p : ℕ) → p < 256 → errorAt (job .curve) (getD (job .targets) p 0) (getD after p 0) ≤ figures .error .0
   pub no-larger : (e : ℕ) → ((p : ℕ) → p < 256 → errorAt (job .curve) (getD (job .targets) p 0) (getD after p 0) ≤ e) → figures .error .0 ≤ e
+
+-- the entries and the values are those of the equations
+pub record Settled (bytes before after : List ℕ) (v : NearestValues) : Type 0 where
+  pub entries : after ≡ nearestLent bytes before
+  pub values-are : v ≡ valuesOf (nearestAnswer bytes (length before))
+
+-- r is numbered from low to high
+pub record Numbered (low high : ℕ) (r : Refusal) : Type 0 where
+  pub from : low ≤ refusalNumber r
+  pub to : refusalNumber r ≤ high
