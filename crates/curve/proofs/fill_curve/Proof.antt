@@ -42,11 +42,15 @@ next-pair-requires c κs = (c .before .loop .inv .1, omega (arith, c .before .be
 
 -- src/lib.rt:136:19
 luminance-at-requires : tie.Need-luminance-at-requires Inv-loop μ-loop
-luminance-at-requires c κs = paired-at (c .before .before .before .before .before .before .pre .sweep) _ _ (omega arith) (c .next-pair .ensures)
+luminance-at-requires c κs =
+    let start = c .before .before .before .before .before .before in
+    paired-at (start .pre .sweep) _ _ (omega arith) (c .next-pair .ensures)
 
 -- src/lib.rt:137:20
 add-curve : tie.Need-add-curve Inv-loop μ-loop
-add-curve c = omega (arith, level-high (c .before .before .before .before .before .before .before .pre .sweep) _ _ (omega arith) (c .before .next-pair .ensures) (c .before .before .before .before .before .before .before .args .added .0) _ (c .luminance-at .ensures), c .before .before .before .before .before .before .before .pre .wide)
+add-curve c =
+    let start = c .before .before .before .before .before .before .before in
+    omega (arith, level-high (start .pre .sweep) _ _ (omega arith) (c .before .next-pair .ensures) (start .args .added .0) _ (c .luminance-at .ensures), start .pre .wide)
 
 -- src/lib.rt:137:9
 mul-curve : tie.Need-mul-curve Inv-loop μ-loop
@@ -54,7 +58,10 @@ mul-curve c = omega (arith, c .before .before .before .before .before .before .b
 
 -- src/lib.rt:137:9
 slice-write-curve : tie.Need-slice-write-curve Inv-loop μ-loop
-slice-write-curve c = rw (copied-length _ _ _ (c .before .before .before .loop .d) (c .before .before .before .loop .inv .2) (rw (curve-length (c .before .before .before .before .before .before .before .pre .sweep)) (c .before .before .before .loop .inv .0)) (omega (arith, c .before .before .before .before .before .before .before .pre .fits))) (omega (arith, c .before .before .before .before .before .before .before .pre .fits))
+slice-write-curve c =
+    let start = c .before .before .before .before .before .before .before in
+    let loop = c .before .before .before .loop in
+    rw (copied-length _ _ _ (loop .d) (loop .inv .2) (rw (curve-length (start .pre .sweep)) (loop .inv .0)) (omega (arith, start .pre .fits))) (omega (arith, start .pre .fits))
 
 -- src/lib.rt:138:9
 add-d : tie.Need-add-d Inv-loop μ-loop
@@ -66,15 +73,24 @@ loop-less c = omega arith
 
 -- src/lib.rt:133:5
 loop-again : tie.Need-loop-again Inv-loop μ-loop
-loop-again c = (omega arith, reached-after (c .before .before .before .before .before .before .before .pre .sweep) _ _ (omega arith) (c .before .next-pair .ensures), copied-more _ _ _ _ _ (c .before .before .before .loop .inv .2) (rw (curve-length (c .before .before .before .before .before .before .before .pre .sweep)) (c .before .before .loop-test .taken)) (omega (arith, c .before .before .before .before .before .before .before .pre .fits)) (level-entry (c .before .before .before .before .before .before .before .pre .sweep) _ _ (omega arith) (c .before .next-pair .ensures) _ _ (c .luminance-at .ensures)))
+loop-again c =
+    let start = c .before .before .before .before .before .before .before in
+    let loop = c .before .before .before .loop in
+    (omega arith, reached-after (start .pre .sweep) _ _ (omega arith) (c .before .next-pair .ensures), copied-more _ _ _ _ _ (loop .inv .2) (rw (curve-length (start .pre .sweep)) (c .before .before .loop-test .taken)) (omega (arith, start .pre .fits)) (level-entry (start .pre .sweep) _ _ (omega arith) (c .before .next-pair .ensures) _ _ (c .luminance-at .ensures)))
 
 -- src/lib.rt:118:1
 same-length : tie.Need-same-length Inv-loop μ-loop
-same-length c = copied-length _ _ _ (c .before .loop .d) (c .before .loop .inv .2) (rw (curve-length (c .before .before .before .before .before .pre .sweep)) (c .before .loop .inv .0)) (omega (arith, c .before .before .before .before .before .pre .fits))
+same-length c =
+    let start = c .before .before .before .before .before in
+    let loop = c .before .loop in
+    copied-length _ _ _ (loop .d) (loop .inv .2) (rw (curve-length (start .pre .sweep)) (loop .inv .0)) (omega (arith, start .pre .fits))
 
 -- src/lib.rt:118:1
 returns : tie.Need-returns Inv-loop μ-loop
-returns c = copied-all _ _ _ (c .before .loop .d) (c .before .loop .inv .2) (rw (curve-length (c .before .before .before .before .before .pre .sweep)) (omega arith)) (rw (curve-length (c .before .before .before .before .before .pre .sweep)) (c .before .loop .inv .0)) ∙ rw (curve-length (c .before .before .before .before .before .pre .sweep))
+returns c =
+    let start = c .before .before .before .before .before in
+    let loop = c .before .loop in
+    copied-all _ _ _ (loop .d) (loop .inv .2) (rw (curve-length (start .pre .sweep)) (omega arith)) (rw (curve-length (start .pre .sweep)) (loop .inv .0)) ∙ rw (curve-length (start .pre .sweep))
 
 pub fill-curve-spec : {M : Type 1} → statement M
 fill-curve-spec =

@@ -34,7 +34,9 @@ table-b1-requires c κs = search needs
 
 -- src/lib.rt:93:9
 test-range-requires : tie.Need-test-range-requires
-test-range-requires c κs = (c .before .table-b1 .ensures, first-last (c .before .before .before .before .before .before .before .before .pre .1))
+test-range-requires c κs =
+    let start = c .before .before .before .before .before .before .before .before in
+    (c .before .table-b1 .ensures, first-last (start .pre .1))
 
 -- src/lib.rt:95:23
 enum-known-found : tie.Need-enum-known-found
@@ -46,11 +48,17 @@ enum-known-found-2 c = search needs
 
 -- src/lib.rt:97:13
 fill-curve-requires : tie.Need-fill-curve-requires
-fill-curve-requires c κs = drawable (c .before .before .before .before .before .before .before .before .before .before .before .before .before .pre .1) (c .before .before .before .before .before .before .before .before .before .before .before .before .before .args .added .0) (c .before .before .before .before .before .before .before .before .before .before .before .before .before .args .room .0) _ (sym (c .before .before .before .before .test-range .ensures) ∙ c .before .before .found2 .given .1) _ (c .before .before .before .before .before .before .before .before .before .before .before .before .before .pre .0) (c .before .before .before .before .before .before .before .before .before .before .before .before .before .pre .2 .levels)
+fill-curve-requires c κs =
+    let start = c .before .before .before .before .before .before .before .before .before .before .before .before .before in
+    drawable (start .pre .1) (start .args .added .0) (start .args .room .0) _ (sym (c .before .before .before .before .test-range .ensures) ∙ c .before .before .found2 .given .1) _ (start .pre .0) (start .pre .2 .levels)
 
 -- src/lib.rt:100:13
 fill-targets-requires : tie.Need-fill-targets-requires
-fill-targets-requires c κs = (aims (c .before .before .before .before .before .before .before .before .before .before .before .before .before .before .before .before .before .before .before .before .pre .1) (c .before .before .before .before .before .before .before .before .before .before .before .before .before .before .before .before .before .before .before .before .args .added .0) (c .before .before .before .before .before .before .before .before .before .before .before .before .before .before .before .before .before .before .before .before .args .room .0) _ (sym (c .before .before .before .before .before .before .before .before .before .before .before .test-range .ensures) ∙ c .before .before .before .before .before .before .before .before .before .found2 .given .1) _ (c .before .before .before .before .before .before .before .before .before .before .before .before .before .table-b1 .ensures), omega (arith, c .before .before .before .before .before .before .before .before .before .before .before .before .before .before .before .before .before .before .before .before .pre .2 .values))
+fill-targets-requires c κs =
+    let start = c .before .before .before .before .before .before .before .before .before .before .before .before .before .before .before .before .before .before .before .before in
+    let b1 = c .before .before .before .before .before .before .before .before .before .before .before .before .before .table-b1 .ensures in
+    let given = c .before .before .before .before .before .before .before .before .before .found2 .given in
+    (aims (start .pre .1) (start .args .added .0) (start .args .room .0) _ (sym (c .before .before .before .before .before .before .before .before .before .before .before .test-range .ensures) ∙ given .1) _ b1, omega (arith, start .pre .2 .values))
 
 -- src/lib.rt:101:17
 room-mark-requires : tie.Need-room-mark-requires
@@ -58,15 +66,21 @@ room-mark-requires c κs = search needs
 
 -- src/lib.rt:103:26
 cast-levels : tie.Need-cast-levels
-cast-levels c = omega (arith, c .before .before .before .before .before .before .before .before .before .before .before .before .before .before .before .before .before .before .before .before .before .before .before .before .pre .0)
+cast-levels c =
+    let start = c .before .before .before .before .before .before .before .before .before .before .before .before .before .before .before .before .before .before .before .before .before .before .before .before in
+    omega (arith, start .pre .0)
 
 -- src/lib.rt:103:26
 add-levels : tie.Need-add-levels
-add-levels c = omega (arith, c .before .before .before .before .before .before .before .before .before .before .before .before .before .before .before .before .before .before .before .before .before .before .before .before .pre .0)
+add-levels c =
+    let start = c .before .before .before .before .before .before .before .before .before .before .before .before .before .before .before .before .before .before .before .before .before .before .before .before in
+    omega (arith, start .pre .0)
 
 -- src/lib.rt:75:1
 returns : tie.Need-returns
-returns c = nothing-written _ _ _ _ (faulted (c .before .before .before .before .before .before .before .before .before .before .before .before .pre .1) (c .before .before .before .before .before .before .before .before .before .before .before .before .args .added .0) (c .before .before .before .before .before .before .before .before .before .before .before .before .args .room .0) _ (sym (c .before .before .before .test-range .ensures) ∙ c .before .found .given .1))
+returns c =
+    let start = c .before .before .before .before .before .before .before .before .before .before .before .before in
+    nothing-written _ _ _ _ (faulted (start .pre .1) (start .args .added .0) (start .args .room .0) _ (sym (c .before .before .before .test-range .ensures) ∙ c .before .found .given .1))
 
 -- src/lib.rt:75:1
 same-length : tie.Need-same-length
@@ -78,7 +92,12 @@ same-length-2 c = search needs
 
 -- src/lib.rt:75:1
 returns-2 : tie.Need-returns-2
-returns-2 c = ready (c .before .before .before .before .before .before .before .before .before .before .before .before .before .before .before .before .before .before .before .before .before .before .before .before .pre .1) (c .before .before .before .before .before .before .before .before .before .before .before .before .before .before .before .before .before .before .before .before .before .before .before .before .args .added .0) (c .before .before .before .before .before .before .before .before .before .before .before .before .before .before .before .before .before .before .before .before .before .before .before .before .args .room .0) _ (sym (c .before .before .before .before .before .before .before .before .before .before .before .before .before .before .before .test-range .ensures) ∙ c .before .before .before .before .before .before .before .before .before .before .before .before .before .found2 .given .1) _ _ _ _ _ (c .room-mark .ensures) (c .before .before .before .before .before .before .before .before .before .before .fill-curve .ensures) (c .before .before .before .fill-targets .ensures)
+returns-2 c =
+    let start = c .before .before .before .before .before .before .before .before .before .before .before .before .before .before .before .before .before .before .before .before .before .before .before .before in
+    let drawn = c .before .before .before .before .before .before .before .before .before .before .fill-curve .ensures in
+    let aimed = c .before .before .before .fill-targets .ensures in
+    let given = c .before .before .before .before .before .before .before .before .before .before .before .before .before .found2 .given in
+    ready (start .pre .1) (start .args .added .0) (start .args .room .0) _ (sym (c .before .before .before .before .before .before .before .before .before .before .before .before .before .before .before .test-range .ensures) ∙ given .1) _ _ _ _ _ (c .room-mark .ensures) drawn aimed
 
 pub measure-spec : {M : Type 1} → statement M
 measure-spec =

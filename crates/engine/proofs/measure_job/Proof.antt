@@ -25,15 +25,22 @@ max-ddl-requires c κs = search needs
 
 -- src/lib.rt:137:9
 slice-aggregate-measure : tie.Need-slice-aggregate-measure
-slice-aggregate-measure c = sym (length-take-le _ _ (c .before .before .before .before .before .before .before .before .before .before .before .pre .0 .ddls-fit))
+slice-aggregate-measure c =
+    let start = c .before .before .before .before .before .before .before .before .before .before .before in
+    sym (length-take-le _ _ (start .pre .0 .ddls-fit))
 
 -- src/lib.rt:138:9
 slice-aggregate-measure-2 : tie.Need-slice-aggregate-measure-2
-slice-aggregate-measure-2 c = sym (length-take-le _ _ (c .before .before .before .before .before .before .before .before .before .before .before .before .pre .0 .luminances-fit))
+slice-aggregate-measure-2 c =
+    let start = c .before .before .before .before .before .before .before .before .before .before .before .before in
+    sym (length-take-le _ _ (start .pre .0 .luminances-fit))
 
 -- src/lib.rt:133:5
 measure-requires : tie.Need-measure-requires
-measure-requires c κs = (top-fits (c .before .before .before .before .before .before .before .before .before .before .before .before .before .before .pre .0) _ (c .before .before .before .before .max-ddl .ensures), sweep-to (c .before .before .before .before .before .before .before .before .before .before .before .before .before .before .pre .0) _ (c .before .before .before .before .max-ddl .ensures), c .before .before .before .before .before .before .before .before .before .before .before .before .before .before .pre .1)
+measure-requires c κs =
+    let start = c .before .before .before .before .before .before .before .before .before .before .before .before .before .before in
+    let top = c .before .before .before .before .max-ddl .ensures in
+    (top-fits (start .pre .0) _ top, sweep-to (start .pre .0) _ top, start .pre .1)
 
 -- src/lib.rt:114:1
 same-length : tie.Need-same-length
@@ -45,7 +52,13 @@ same-length-2 c = search needs
 
 -- src/lib.rt:114:1
 returns : tie.Need-returns
-returns c = measures (c .before .before .before .before .before .before .before .before .before .before .before .before .before .before .before .before .before .before .before .args .job) _ _ _ _ _ _ _ _ _ _ (c .before .before .before .before .before .before .before .before .before .before .before .room-luminance .ensures) (c .before .before .before .before .before .before .before .before .before .before .added-luminance .ensures) (c .before .before .before .before .before .before .before .before .before .max-ddl .ensures) (c .before .before .before .before .measure .ensures)
+returns c =
+    let start = c .before .before .before .before .before .before .before .before .before .before .before .before .before .before .before .before .before .before .before in
+    let added = c .before .before .before .before .before .before .before .before .before .before .added-luminance .ensures in
+    let top = c .before .before .before .before .before .before .before .before .before .max-ddl .ensures in
+    let measured = c .before .before .before .before .measure .ensures in
+    let room = c .before .before .before .before .before .before .before .before .before .before .before .room-luminance .ensures in
+    measures (start .args .job) _ _ _ _ _ _ _ _ _ _ room added top measured
 
 pub measure-job-spec : {M : Type 1} → statement M
 measure-job-spec =

@@ -37,11 +37,15 @@ enum-known-found-2 c = search needs
 
 -- src/lib.rt:175:45
 array-share-prefix-curve : tie.Need-array-share-prefix-curve
-array-share-prefix-curve c = (readied _ _ (c .before .found2 .given .0 .0) _ _ _ _ (search needs) (c .before .before .before .before .before .prepare .ensures) (c .before .found2 .given .1)) .fits
+array-share-prefix-curve c =
+    let prepared = c .before .before .before .before .before .prepare .ensures in
+    (readied _ _ (c .before .found2 .given .0 .0) _ _ _ _ (search needs) prepared (c .before .found2 .given .1)) .fits
 
 -- src/lib.rt:175:45
 slice-aggregate-fill-table : tie.Need-slice-aggregate-fill-table
-slice-aggregate-fill-table c = sym (length-take-le _ _ ((readied _ _ (c .before .before .found2 .given .0 .0) _ _ _ _ (search needs) (c .before .before .before .before .before .before .prepare .ensures) (c .before .before .found2 .given .1)) .fits))
+slice-aggregate-fill-table c =
+    let prepared = c .before .before .before .before .before .before .prepare .ensures in
+    sym (length-take-le _ _ ((readied _ _ (c .before .before .found2 .given .0 .0) _ _ _ _ (search needs) prepared (c .before .before .found2 .given .1)) .fits))
 
 -- src/lib.rt:175:63
 slice-aggregate-fill-table-2 : tie.Need-slice-aggregate-fill-table-2
@@ -49,11 +53,16 @@ slice-aggregate-fill-table-2 c = search needs
 
 -- src/lib.rt:175:17
 fill-table-requires : tie.Need-fill-table-requires
-fill-table-requires c κs = fillable _ _ (omega arith) (readied _ _ (c .before .before .before .before .found2 .given .0 .0) _ _ _ _ (search needs) (c .before .before .before .before .before .before .before .before .prepare .ensures) (c .before .before .before .before .found2 .given .1))
+fill-table-requires c κs =
+    let prepared = c .before .before .before .before .before .before .before .before .prepare .ensures in
+    let given = c .before .before .before .before .found2 .given in
+    fillable _ _ (omega arith) (readied _ _ (given .0 .0) _ _ _ _ (search needs) prepared (given .1))
 
 -- src/lib.rt:162:1
 returns-2 : tie.Need-returns-2
-returns-2 c = back _ _ (omega arith) _ (sent-back _ _ _ _ _ _ _ (c .before .before .before .before .before .prepare .ensures) (c .before .found .given .1))
+returns-2 c =
+    let prepared = c .before .before .before .before .before .prepare .ensures in
+    back _ _ (omega arith) _ (sent-back _ _ _ _ _ _ _ prepared (c .before .found .given .1))
 
 -- src/lib.rt:162:1
 same-length : tie.Need-same-length
@@ -61,7 +70,11 @@ same-length c = search needs
 
 -- src/lib.rt:162:1
 returns-3 : tie.Need-returns-3
-returns-3 c = filled _ _ (omega arith) (readied _ _ (c .before .before .before .before .before .before .before .before .found2 .given .0 .0) _ _ _ _ (search needs) (c .before .before .before .before .before .before .before .before .before .before .before .before .prepare .ensures) (c .before .before .before .before .before .before .before .before .found2 .given .1)) _ _ (c .before .before .before .fill-table .ensures)
+returns-3 c =
+    let filling = c .before .before .before .fill-table .ensures in
+    let prepared = c .before .before .before .before .before .before .before .before .before .before .before .before .prepare .ensures in
+    let given = c .before .before .before .before .before .before .before .before .found2 .given in
+    filled _ _ (omega arith) (readied _ _ (given .0 .0) _ _ _ _ (search needs) prepared (given .1)) _ _ filling
 
 pub nearest-table-spec : {M : Type 1} → statement M
 nearest-table-spec =

@@ -22,7 +22,11 @@ enum-known-answer-2 c = search needs
 
 -- src/lib.rt:155:13
 measure-job-requires : tie.Need-measure-job-requires
-measure-job-requires c κs = (measurable (c .before .before .before .before .before .before .before .before .before .before .read-record .ensures) _ (c .before .before .before .before .before .before .before .before .answer2 .given .1), c .before .before .before .before .before .before .before .before .before .before .before .before .before .before .pre)
+measure-job-requires c κs =
+    let start = c .before .before .before .before .before .before .before .before .before .before .before .before .before .before in
+    let read = c .before .before .before .before .before .before .before .before .before .before .read-record .ensures in
+    let given = c .before .before .before .before .before .before .before .before .answer2 .given in
+    (measurable read _ (given .1), start .pre)
 
 -- src/lib.rt:145:1
 returns : tie.Need-returns
@@ -38,7 +42,11 @@ same-length-2 c = search needs
 
 -- src/lib.rt:145:1
 returns-2 : tie.Need-returns-2
-returns-2 c = as-sound _ _ _ _ _ _ _ (sound-as (c .before .before .before .before .before .before .before .before .before .before .before .before .before .before .before .read-record .ensures) _ (c .before .before .before .before .before .before .before .before .before .before .before .before .before .answer2 .given .1)) (c .before .before .before .before .measure-job .ensures)
+returns-2 c =
+    let measured = c .before .before .before .before .measure-job .ensures in
+    let read = c .before .before .before .before .before .before .before .before .before .before .before .before .before .before .before .read-record .ensures in
+    let given = c .before .before .before .before .before .before .before .before .before .before .before .before .before .answer2 .given in
+    as-sound _ _ _ _ _ _ _ (sound-as read _ (given .1)) measured
 
 pub prepare-spec : {M : Type 1} → statement M
 prepare-spec =

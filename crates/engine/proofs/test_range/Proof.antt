@@ -24,19 +24,30 @@ is-above-table-requires c κs = search needs
 
 -- src/lib.rt:56:9
 returns-2 : tie.Need-returns-2
-returns-2 c = fault-9 _ _ _ (c .before .before .before .is-below-table .ensures) (c .before .before .if1 .left) _ (c .before .is-above-table .ensures) (c .if2 .taken)
+returns-2 c =
+    let below = c .before .before .before .is-below-table .ensures in
+    fault-9 _ _ _ below (c .before .before .if1 .left) _ (c .before .is-above-table .ensures) (c .if2 .taken)
 
 -- src/lib.rt:61:17
 add-black : tie.Need-add-black
-add-black c = omega (arith, in-table _ _ _ (c .before .before .before .is-below-table .ensures) (c .before .before .if1 .left) _ (c .before .is-above-table .ensures) (c .if2 .left) (omega arith) _ (c .before .before .before .before .pre .0) .low .high)
+add-black c =
+    let start = c .before .before .before .before in
+    let below = c .before .before .before .is-below-table .ensures in
+    omega (arith, in-table _ _ _ below (c .before .before .if1 .left) _ (c .before .is-above-table .ensures) (c .if2 .left) (omega arith) _ (start .pre .0) .low .high)
 
 -- src/lib.rt:62:17
 add-white : tie.Need-add-white
-add-white c = omega (arith, in-table _ _ _ (c .before .before .before .is-below-table .ensures) (c .before .before .if1 .left) _ (c .before .is-above-table .ensures) (c .if2 .left) (omega arith) _ (c .before .before .before .before .pre .0) .high .high)
+add-white c =
+    let start = c .before .before .before .before in
+    let below = c .before .before .before .is-below-table .ensures in
+    omega (arith, in-table _ _ _ below (c .before .before .if1 .left) _ (c .before .is-above-table .ensures) (c .if2 .left) (omega arith) _ (start .pre .0) .high .high)
 
 -- src/lib.rt:63:9
 index-range-requires : tie.Need-index-range-requires
-index-range-requires c κs = in-table _ _ _ (c .before .before .before .is-below-table .ensures) (c .before .before .if1 .left) _ (c .before .is-above-table .ensures) (c .if2 .left) (omega arith) _ (c .before .before .before .before .pre .0)
+index-range-requires c κs =
+    let start = c .before .before .before .before in
+    let below = c .before .before .before .is-below-table .ensures in
+    in-table _ _ _ below (c .before .before .if1 .left) _ (c .before .is-above-table .ensures) (c .if2 .left) (omega arith) _ (start .pre .0)
 
 -- src/lib.rt:65:8
 is-too-narrow-requires : tie.Need-is-too-narrow-requires
@@ -44,11 +55,19 @@ is-too-narrow-requires c κs = search needs
 
 -- src/lib.rt:66:9
 returns-3 : tie.Need-returns-3
-returns-3 c = fault-10 _ _ _ (c .before .before .before .before .before .before .before .is-below-table .ensures) (c .before .before .before .before .before .before .if1 .left) _ (c .before .before .before .before .before .is-above-table .ensures) (c .before .before .before .before .if2 .left) _ (c .before .before .before .index-range .ensures) _ (c .before .is-too-narrow .ensures) (c .if3 .taken)
+returns-3 c =
+    let range = c .before .before .before .index-range .ensures in
+    let above = c .before .before .before .before .before .is-above-table .ensures in
+    let below = c .before .before .before .before .before .before .before .is-below-table .ensures in
+    fault-10 _ _ _ below (c .before .before .before .before .before .before .if1 .left) _ above (c .before .before .before .before .if2 .left) _ range _ (c .before .is-too-narrow .ensures) (c .if3 .taken)
 
 -- src/lib.rt:48:1
 returns-4 : tie.Need-returns-4
-returns-4 c = all-passed _ _ _ (c .before .before .before .before .before .before .before .is-below-table .ensures) (c .before .before .before .before .before .before .if1 .left) _ (c .before .before .before .before .before .is-above-table .ensures) (c .before .before .before .before .if2 .left) _ (c .before .before .before .index-range .ensures) _ (c .before .is-too-narrow .ensures) (c .if3 .left)
+returns-4 c =
+    let range = c .before .before .before .index-range .ensures in
+    let above = c .before .before .before .before .before .is-above-table .ensures in
+    let below = c .before .before .before .before .before .before .before .is-below-table .ensures in
+    all-passed _ _ _ below (c .before .before .before .before .before .before .if1 .left) _ above (c .before .before .before .before .if2 .left) _ range _ (c .before .is-too-narrow .ensures) (c .if3 .left)
 
 pub test-range-spec : {M : Type 1} → statement M
 test-range-spec =

@@ -43,7 +43,10 @@ mul-targets c = omega arith
 
 -- src/lib.rt:76:9
 slice-write-targets : tie.Need-slice-write-targets Inv-loop μ-loop
-slice-write-targets c = rw (copied-length _ _ _ (c .before .before .loop .p) (c .before .before .loop .inv .1) (rw (all-length (c .before .before .before .before .pre .0)) (c .before .before .loop .inv .0)) (omega (arith, c .before .before .before .before .pre .1))) (omega (arith, c .before .before .before .before .pre .1))
+slice-write-targets c =
+    let start = c .before .before .before .before in
+    let loop = c .before .before .loop in
+    rw (copied-length _ _ _ (loop .p) (loop .inv .1) (rw (all-length (start .pre .0)) (loop .inv .0)) (omega (arith, start .pre .1))) (omega (arith, start .pre .1))
 
 -- src/lib.rt:77:9
 add-p : tie.Need-add-p Inv-loop μ-loop
@@ -55,15 +58,24 @@ loop-less c = omega arith
 
 -- src/lib.rt:73:5
 loop-again : tie.Need-loop-again Inv-loop μ-loop
-loop-again c = (omega arith, copied-more _ _ _ _ _ (c .before .before .loop .inv .1) (rw (all-length (c .before .before .before .before .pre .0)) (c .before .loop-test .taken)) (omega (arith, c .before .before .before .before .pre .1)) (entry-is (c .before .before .before .before .pre .0) _ _ (omega arith) (c .target-at .ensures)))
+loop-again c =
+    let start = c .before .before .before .before in
+    let loop = c .before .before .loop in
+    (omega arith, copied-more _ _ _ _ _ (loop .inv .1) (rw (all-length (start .pre .0)) (c .before .loop-test .taken)) (omega (arith, start .pre .1)) (entry-is (start .pre .0) _ _ (omega arith) (c .target-at .ensures)))
 
 -- src/lib.rt:60:1
 same-length : tie.Need-same-length Inv-loop μ-loop
-same-length c = copied-length _ _ _ (c .before .loop .p) (c .before .loop .inv .1) (rw (all-length (c .before .before .before .pre .0)) (c .before .loop .inv .0)) (omega (arith, c .before .before .before .pre .1))
+same-length c =
+    let start = c .before .before .before in
+    let loop = c .before .loop in
+    copied-length _ _ _ (loop .p) (loop .inv .1) (rw (all-length (start .pre .0)) (loop .inv .0)) (omega (arith, start .pre .1))
 
 -- src/lib.rt:60:1
 returns : tie.Need-returns Inv-loop μ-loop
-returns c = copied-all _ _ _ (c .before .loop .p) (c .before .loop .inv .1) (rw (all-length (c .before .before .before .pre .0)) (omega arith)) (rw (all-length (c .before .before .before .pre .0)) (c .before .loop .inv .0)) ∙ rw (all-length (c .before .before .before .pre .0))
+returns c =
+    let start = c .before .before .before in
+    let loop = c .before .loop in
+    copied-all _ _ _ (loop .p) (loop .inv .1) (rw (all-length (start .pre .0)) (omega arith)) (rw (all-length (start .pre .0)) (loop .inv .0)) ∙ rw (all-length (start .pre .0))
 
 pub fill-targets-spec : {M : Type 1} → statement M
 fill-targets-spec =
