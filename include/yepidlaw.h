@@ -1,7 +1,8 @@
-/* Yepidlaw: a P-value calibration engine after DICOM PS3.14.
+/* Yepidlaw: calibrates the screens that radiologists read from, after DICOM PS3.14.
  *
  * Each call takes a job record of any bytes and slices that the caller lends; a slice is a pointer to its first element and the number
- * of its elements, and may be null where that number is 0. Nothing else is asked of the caller.
+ * of its elements; the pointer may be null where that number is 0. Beyond what C asks of pointers (so many elements are there, aligned, and no two
+ * slices overlap) nothing is asked of the caller.
  *
  * Luminances are in units of 0.0001 cd/m², JND indices in hundredths of a JND. */
 #ifndef YEPIDLAW_H

@@ -1,6 +1,6 @@
 //! Links the engine's static libraries, which `rt staticlib` writes.
 fn main() {
-    let libraries = concat!(env!("CARGO_MANIFEST_DIR"), "/../../target/staticlib");
+    let libraries = std::env::var("CARGO_MANIFEST_DIR").expect("cargo sets it") + "/../../target/staticlib";
     println!("cargo:rustc-link-search=native={libraries}");
     for library in ["gsdf_lent", "gsdf_values", "record_values", "yepidlaw"] {
         println!("cargo:rustc-link-lib=static={library}");

@@ -111,7 +111,7 @@ module _ {ddls luminances : List ℕ} {top : ℕ} (s : Sweep ddls luminances top
         (λ ki. clash (pair-passed d dt k ki) (le-trans h (pair-to e l)))
         (le-or-lt i k)
 
-    -- at a reading, F is A plus that reading
+    -- F at the level of a reading
     pub curve-reading : (i : ℕ) → i < length ddls → curveAt added ddls luminances (getD ddls i 0) ≡ added + getD luminances i 0
     unfolding curveAt
     curve-reading zero h =

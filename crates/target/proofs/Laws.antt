@@ -33,7 +33,7 @@ module _ (low range top : ℕ) where
 
     pub index-last : indexAt low range top top ≡ low + range
     unfolding indexAt
-    index-last = rw (mul-div-cancel range {n = top} (omega arith))
+    index-last = omega (arith, mul-div-cancel range {n = top} (omega arith))
 
     pub index-mono : (p q : ℕ) → p ≤ q → indexAt low range top p ≤ indexAt low range top q
     unfolding indexAt

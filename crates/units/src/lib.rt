@@ -12,7 +12,7 @@ pub struct Ddl(pub u16);
 // Presentation value, 0 to 255.
 pub struct PValue(pub u16);
 
-// JND index in hundredths of a JND, 100 to 102,300.
+// JND index, counted in hundredths: 100 to 102,300.
 pub struct JndIndex(pub u32);
 
 // Difference of two JND indices (N), in hundredths of a JND, 0 to 102,200.
