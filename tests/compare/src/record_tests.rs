@@ -5,6 +5,7 @@ mod sections;
 mod values;
 
 use compare::record::{self as engine, RecordValues};
+use compare::yepidlaw;
 use reference::record::{self, Record};
 
 use crate::comparison::{field, start, Comparison};
@@ -53,12 +54,23 @@ fn engine_difference(got: &RecordValues, expected: &Answer) -> Option<String> {
         .or_else(|| field("check", check, &read.check))
 }
 
+/// Making a nearest table refuses what reading refuses, and else nothing but a curve: under 8, 9 or 10.
+fn nearest_difference(refusal: u32, number: u32) -> Option<String> {
+    let agrees = if number == 0 { matches!(refusal, 0 | 8..=10) } else { refusal == number };
+    (!agrees).then(|| format!("nearest gives number {refusal}, reading {number}"))
+}
+
+/// The number under which a nearest table is refused, 0 for none.
+fn nearest_number(bytes: &[u8]) -> u32 {
+    yepidlaw::nearest(bytes, &mut [0; 256]).refusal
+}
+
 fn reference_difference(got: &Answer, expected: &Answer) -> Option<String> {
     let number = field("number", &[got.number], &[u64::from(expected.number)]);
     number.or_else(|| (got != expected).then(|| "what was read".to_string()))
 }
 
-/// Comparisons of records; each input counts as one, with all its values.
+/// Comparisons of records; each input counts as one, with all its values and the number of its nearest table.
 struct Records(Comparison);
 
 impl Records {
@@ -69,7 +81,7 @@ impl Records {
     /// The engine gives what the reference gives; returns its number.
     fn alike(&mut self, bytes: &[u8]) -> u32 {
         let expected = Answer::of_reference(bytes);
-        self.count(bytes, engine_difference(&engine::read(bytes), &expected));
+        self.count(bytes, expected.number, engine_difference(&engine::read(bytes), &expected));
         expected.number
     }
 
@@ -89,11 +101,12 @@ impl Records {
         let of_engine = engine_difference(&engine::read(bytes), expected).map(|difference| format!("engine, {difference}"));
         let of_reference =
             reference_difference(&Answer::of_reference(bytes), expected).map(|difference| format!("reference, {difference}"));
-        self.count(bytes, of_engine.or(of_reference));
+        self.count(bytes, expected.number, of_engine.or(of_reference));
     }
 
-    fn count(&mut self, bytes: &[u8], difference: Option<String>) {
+    fn count(&mut self, bytes: &[u8], number: u32, difference: Option<String>) {
         let input = self.0.seen();
+        let difference = difference.or_else(|| nearest_difference(nearest_number(bytes), number));
         self.0.count(difference.map(|difference| format!("input {input} ({} bytes, {:?}): {difference}", bytes.len(), start(bytes))));
     }
 
@@ -150,7 +163,7 @@ const CHANGES: [Change; 21] = [
     |values| values.check[17] -= 1,
 ];
 
-/// The comparison sees every change of the engine's values, and of the reference's.
+/// The comparison sees every change of the engine's values, of the reference's and of the number of the nearest table.
 fn differences_are_seen() -> bool {
     let mut all = Comparison::new("record: differences are seen");
     let unseen = |seen: Option<String>| seen.map_or(Some("a difference is not seen".to_string()), |_| None);
@@ -167,7 +180,10 @@ fn differences_are_seen() -> bool {
     for got in [Answer { number: 5, record: Some(record) }, Answer { number: 0, record: None }, Answer { number: 0, record: Some(other) }] {
         all.count(unseen(reference_difference(&got, &expected)));
     }
-    all.ended(24)
+    for (refusal, number) in [(1, 0), (2, 0), (7, 0), (11, 0), (0, 2), (0, 7), (3, 2), (2, 3), (8, 7), (10, 5)] {
+        all.count(unseen(nearest_difference(refusal, number)));
+    }
+    all.ended(34)
 }
 
 pub fn results() -> Vec<bool> {

@@ -26,3 +26,8 @@ pub mod raw {
 pub fn nearest(record: &[u8], table: &mut [u16]) -> Nearest {
     unsafe { raw::yepidlaw_nearest(record.as_ptr(), record.len(), table.as_mut_ptr(), table.len()) }
 }
+
+/// The same with a record that can be written, so that the compiler does not take it for unchanged.
+pub fn nearest_of_writable(record: &mut [u8], table: &mut [u16]) -> Nearest {
+    unsafe { raw::yepidlaw_nearest(record.as_mut_ptr(), record.len(), table.as_mut_ptr(), table.len()) }
+}

@@ -18,7 +18,7 @@ pub const JOBS: u64 = 20_000;
 pub const SEED: u64 = 14;
 /// How often each thing has to be seen at least, where there are as many jobs as the gate's or more.
 const LEAST: u64 = 50;
-const LENGTHS: [usize; 5] = [0, 255, 256, 257, 1_000];
+const LENGTHS: [usize; 6] = [0, 255, 256, 257, 1_000, 65_536];
 
 type Property = fn(&Sound, &Table) -> bool;
 
@@ -82,6 +82,7 @@ struct Seen {
     answers: Tally,
     marks: Tally,
     lengths: Tally,
+    addresses: Tally,
     shapes: Tally,
     properties: Tally,
     near_misses: Tally,
@@ -95,6 +96,7 @@ impl Seen {
             answers: Tally::new("nearest: answers", 0..=10),
             marks: Tally::new("nearest: room marks", ["low", "high"]),
             lengths: Tally::new("nearest: entries lent", LENGTHS),
+            addresses: Tally::new("nearest: address of the first entry, modulo 4", [0, 2]),
             shapes: Tally::new("nearest: shapes of sound jobs", SHAPES.map(|shape| format!("{shape:?}"))),
             properties: Tally::new("nearest: among sound jobs", PROPERTIES.map(|(name, _)| name)),
             near_misses: Tally::new("nearest: among refused jobs", NEAR_MISSES),
@@ -122,18 +124,19 @@ impl Seen {
 
     fn ended(self, least: u64) -> Vec<bool> {
         let tables = Seen::tables_ended(self.tables.len(), self.sound);
-        let tallies = [self.answers, self.marks, self.lengths, self.shapes, self.properties, self.near_misses];
+        let tallies = [self.answers, self.marks, self.lengths, self.addresses, self.shapes, self.properties, self.near_misses];
         let mut results: Vec<bool> = tallies.into_iter().map(|tally| tally.ended(least)).collect();
         results.push(tables);
         results
     }
 }
 
-/// Entries lent, short ones now and then.
+/// Entries lent, short ones now and then, and seldom a great many.
 fn length(random: &mut Random) -> usize {
-    match random.below(20) {
-        0 => 0,
-        1 => 1,
+    match random.below(100) {
+        0..=4 => 0,
+        5..=9 => 1,
+        10 => 5,
         n => 2 + n as usize % 3,
     }
 }
@@ -145,8 +148,9 @@ pub fn results(reference: &Engine, count: u64, seed: u64) -> Vec<bool> {
     for _ in 0..count {
         let job = jobs::draw(&mut random, &reference.gsdf);
         let length = length(&mut random);
-        let lent = Lent::new(&mut random, LENGTHS[length]);
+        let lent = Lent::new(&mut random, &job.bytes, LENGTHS[length]);
         seen.lengths.add(length);
+        seen.addresses.add(lent.first % 2);
         let expected = match reference.nearest(&job.bytes, lent.entries()) {
             Err(number) => {
                 if let Some(place) = near_miss(&reference.gsdf, &job.bytes, number) {
@@ -163,7 +167,7 @@ pub fn results(reference: &Engine, count: u64, seed: u64) -> Vec<bool> {
             }
         };
         seen.answers.add(expected.result.refusal as usize);
-        all.count(&job.bytes, &lent, Answer::of_engine(&job.bytes, &lent).difference(&expected));
+        all.count(&lent, Answer::of_engine(&lent).difference(&expected));
     }
     let mut results = vec![all.ended(count)];
     results.extend(seen.ended(if JOBS <= count { LEAST } else { 0 }));

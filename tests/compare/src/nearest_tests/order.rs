@@ -68,11 +68,11 @@ pub fn lowest_number(reference: &Engine) -> bool {
         let (record, lowest) = record(ends, faults);
         for (bytes, number) in written(&record, lowest) {
             for (entries, number) in [(0, 1), (255, 1), (256, number), (1_000, number)] {
-                let lent = Lent::new(&mut random, entries);
-                let expected = Answer::of_reference(reference, &bytes, &lent);
-                let difference = Answer::of_engine(&bytes, &lent).difference(&expected);
+                let lent = Lent::new(&mut random, &bytes, entries);
+                let expected = Answer::of_reference(reference, &lent);
+                let difference = Answer::of_engine(&lent).difference(&expected);
                 let stated = (expected.result.refusal != number).then(|| format!("should be {number}"));
-                all.count(&bytes, &lent, difference.or(stated));
+                all.count(&lent, difference.or(stated));
             }
         }
     }

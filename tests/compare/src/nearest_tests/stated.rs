@@ -149,14 +149,39 @@ fn room_marks() -> Vec<Example> {
     examples
 }
 
+/// 4 × A0 around 2^16, around 2^24 and as large as a first reading can be: N is 10,000 or more up to F(0) = 20,852,060.
+fn large_room_marks() -> Vec<Example> {
+    let mut examples = vec![];
+    let rooms: [(u64, u64, &[u64], u64); 6] = [
+        (0, 512, &[32], 16_384),
+        (1, 512, &[32], 16_384),
+        (1, 512, &[1_024; 8], 4_194_304),
+        // The largest A0 with a contact meter, then the largest odd one and the largest with a telescopic one.
+        (0, 477, &[2_000, 743, 2_000, 2_000, 2_000], 4_170_411),
+        (1, 383, &[1_999, 1_999, 1_999, 1_617, 1_999, 1_999, 1_999], 5_213_013),
+        (1, 394, &[2_000, 2_000, 2_000, 2_000, 2_000, 2_000, 1_231], 5_213_014),
+    ];
+    for (meter, reflectance, lamps, room) in rooms {
+        let last = if meter == 0 { 39_934_040 - room } else { 39_934_040 };
+        for (first, mark) in [(4 * room - 1, 1), (4 * room, 0), (4 * room + 1, 0)] {
+            let record = job(meter, reflectance, lamps, &[(0, first), (255, last)]);
+            examples.push(example(&format!("4 × {room}"), record, &[Number(0), RoomHigh(mark), Jhi(102_300)]));
+        }
+    }
+    let bright = |first| job(1, 1_000, &[2_000; 8], &[(0, first), (255, 39_934_040)]);
+    examples.push(example("brightest room", bright(20_852_060), &[Number(0), RoomHigh(1), Jlo(92_300)]));
+    examples.push(example("brightest room, N = 9,999", bright(20_852_061), &[Number(10)]));
+    examples
+}
+
 /// Each fact of engine and reference, and the engine's whole answer against the reference's.
 fn compare(reference: &Engine, name: &'static str, examples: Vec<Example>, expected: u64) -> bool {
     let mut random = Random::new(3);
     let mut all = Comparison::new(name);
     for (name, bytes, entries, facts) in examples {
-        let lent = Lent::new(&mut random, entries);
-        let mut of_engine = Answer::of_engine(&bytes, &lent);
-        let mut of_reference = Answer::of_reference(reference, &bytes, &lent);
+        let lent = Lent::new(&mut random, &bytes, entries);
+        let mut of_engine = Answer::of_engine(&lent);
+        let mut of_reference = Answer::of_reference(reference, &lent);
         for fact in facts {
             all.count((!fact.holds(&mut of_engine)).then(|| format!("{name}, engine: not {fact:?}")));
             all.count((!fact.holds(&mut of_reference)).then(|| format!("{name}, reference: not {fact:?}")));
@@ -174,5 +199,6 @@ pub fn results(reference: &Engine) -> Vec<bool> {
         compare(reference, "nearest: large sums", large_sums(), 2 * 7 + 5),
         compare(reference, "nearest: least range", least_range(), 2 * 5 + 3),
         compare(reference, "nearest: room marks", room_marks(), 2 * 29 + 13),
+        compare(reference, "nearest: room marks, large", large_room_marks(), 2 * 58 + 20),
     ]
 }
