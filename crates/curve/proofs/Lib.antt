@@ -1,4 +1,6 @@
--- `Room`: the light of the room. `Ends`: the ends of Table B-1. `Interpolation`: the value between two readings. `Laws`: the curve of a sweep. `Walk`: the curve, level by level.
+-- `Examples`: document 01's marked examples. `Room`: the light of the room. `Ends`: the ends of Table B-1. `Interpolation`: the value between two readings.
+-- `Laws`: the curve of a sweep. `Walk`: the curve, level by level.
+pub mod Examples
 pub mod Room
 pub mod Ends
 pub mod Interpolation

@@ -8,8 +8,7 @@ use mir.Facts.{and-yes, leb-yes, ltb-yes}
 use Rattle.gsdf.specs.Table.{tableB1}
 use Rattle.gsdf.specs.DisplayFunction.{jndLuminance, luminanceAfter, luminanceOf, indexOf}
 use Rattle.gsdf.proofs.Laws.{index-is}
-use Rattle.laws.specs.Search.{lowest}
-use Rattle.curve.specs.Curve.{curveAt, byPair, pairAt, interpolate}
+use Rattle.curve.proofs.Examples.{first-third, second-third}
 use Rattle.nearest.proofs.Examples.{tie-low, past-tie, tie-plateau}
 use Rattle.engine.specs.MarkedExamples.{MarkedExamples}
 
@@ -22,7 +21,7 @@ index-by l k t =
     index-is l k (leb-yes low) (ltb-yes high) (leb-yes at-most) (ltb-yes above)
 
 pub marked-examples : MarkedExamples
-unfolding luminanceOf luminanceAfter jndLuminance tableB1 curveAt byPair pairAt interpolate lowest
+unfolding luminanceOf luminanceAfter jndLuminance tableB1
 marked-examples = record {
   index-500 = index-by _ _ tt;
   index-501 = index-by _ _ tt;
@@ -30,8 +29,8 @@ marked-examples = record {
   index-547 = index-by _ _ tt;
   index-12400 = index-by _ _ tt;
   luminance-150 = refl;
-  curve-1 = refl;
-  curve-2 = refl;
+  curve-1 = first-third;
+  curve-2 = second-third;
   nearest-15 = tie-low;
   nearest-16 = past-tie;
   nearest-25 = tie-plateau;

@@ -1,4 +1,5 @@
 pub mod Examples
+pub mod Clashes
 pub mod Tests
 pub mod Measuring
 pub mod Reading

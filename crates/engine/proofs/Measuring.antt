@@ -27,6 +27,7 @@ use Rattle.engine.specs.Sound.{SoundJob, Soundness, sound, unsound, rang
 use Rattle.engine.specs.Preparing.{Prepares}
 use Rattle.engine.specs.declared.Ranged.the-variants.{Wide, Fault}
 use Rattle.engine.specs.declared.Prepared.the-variants.{Ready, SentBack}
+use Rattle.engine.proofs.Clashes.{wide-fault}
 
 -- what holds at each of the three depths
 by-depth : (P : ℕ → Type 0) (b : ℕ) → 8 ≤ b → b ≤ 10 → P 8 → P 9 → P 10 → P b
@@ -49,18 +50,15 @@ pub record Passed (black white : ℕ) (indices : IndexRange) : Type 0 where
   pub is : indices ≡ rangeOf black white
   pub wide : 10000 ≤ indices .range .0
 
-never : {r : Refusal} {indices : IndexRange} → Fault r ≡ Wide indices → ⊥
-never e = let z : _≡_ {A = ℕ} 0 1 = cc in omega arith
-
 pub passed : (black white : ℕ) (indices : IndexRange) → rangeTests black white ≡ Wide indices → Passed black white indices
 unfolding rangeTests
 passed black white indices e =
     by (belowTable black)
-    (λ a. absurd (never (simp a at e)))
+    (λ a. absurd (wide-fault (sym (simp a at e))))
     (λ a. by (aboveTable white)
-    (λ b. absurd (never (simp (a, b) at e)))
+    (λ b. absurd (wide-fault (sym (simp (a, b) at e))))
     (λ b. by (tooNarrow (rangeOf black white .range .0))
-    (λ n. absurd (never (simp (a, b, n) at e)))
+    (λ n. absurd (wide-fault (sym (simp (a, b, n) at e))))
     (λ n.
     let f : Wide (rangeOf black white) ≡ Wide indices = simp (a, b, n) at e in
     let is : indices ≡ rangeOf black white = cc in

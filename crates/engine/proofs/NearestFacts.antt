@@ -19,10 +19,8 @@ use Rattle.engine.specs.NearestFacts.{MadeTable}
 use Rattle.engine.specs.declared.NearestFigures.{NearestFigures}
 use Rattle.engine.specs.declared.NearestAnswer.the-variants.{Made, Refused}
 use Rattle.engine.proofs.Soundness.{sound-job}
+use Rattle.engine.proofs.Clashes.{made-refused}
 use Rattle.engine.proofs.Nearest.{targets-keep}
-
-never : {r : Refusal} {figures : NearestFigures} → Refused r ≡ Made figures → ⊥
-never e = let z : _≡_ {A = ℕ} 0 1 = cc in omega arith
 
 -- the entries after a table was made
 module _ (before : List ℕ) {after : List ℕ} {job : SoundJob} (known : IsSound job) (is : after ≡ nearestEntries job ++ drop (length (job .targets)) before) where
@@ -86,11 +84,11 @@ module _ {bytes before after : List ℕ} where
       (λ (long : 256 ≤ length before).
       let a : Made figures ≡ nearestOf (soundness bytes) = simp (le-ltb _ _ long) at (h .answers) in
       go long (soundness bytes) refl a (simp (le-ltb _ _ long) at (h .table)))
-      (λ (short : length before < 256). absurd (never (sym (simp (lt-ltb _ _ short) at (h .answers)))))
+      (λ (short : length before < 256). absurd (made-refused (simp (lt-ltb _ _ short) at (h .answers))))
       (le-or-lt 256 (length before))
     where
       go : 256 ≤ length before → (x : Soundness) → soundness bytes ≡ x → Made figures ≡ nearestOf x → after ≡ entriesOver x before → MadeTable bytes before after figures
-      go long (unsound r) e a t = absurd (never (sym a))
+      go long (unsound r) e a t = absurd (made-refused a)
       go long (sound job) e a t = let f : figures ≡ nearestFigures job = cc in made-of before (sound-job bytes job e) t long e f
 
   -- a refusal changes no entry
@@ -105,4 +103,4 @@ module _ {bytes before after : List ℕ} where
     where
       go : (x : Soundness) → Refused r ≡ nearestOf x → after ≡ entriesOver x before → after ≡ before
       go (unsound q) a t = t
-      go (sound job) a t = absurd (never a)
+      go (sound job) a t = absurd (made-refused (sym a))

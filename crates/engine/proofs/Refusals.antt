@@ -15,54 +15,34 @@ use Rattle.record.specs.Sections.{sections, ddlsIn, luminancesIn}
 use Rattle.record.specs.Tests.{allUpTo, answerOf}
 use Rattle.record.specs.Outcome.{Outcome, answerFor, Under, too-short, not-permitted, trailing, out-of-range, not-spanning, falls, passes}
 use Rattle.record.specs.declared.Refusal.{Refusal}
-use Rattle.record.specs.declared.Job.{Job}
 use Rattle.record.specs.declared.Answer.{Answer}
 use Rattle.record.specs.declared.Answer.the-variants.{Accepted, Refused}
 use Rattle.record.proofs.Outcomes.{only-under}
 use Rattle.curve.specs.Ends.{belowTable, aboveTable}
 use Rattle.curve.specs.Curve.{curveAt}
 use Rattle.target.specs.Target.{rangeOf, tooNarrow}
-use Rattle.target.specs.declared.IndexRange.{IndexRange}
-use Rattle.engine.specs.Sound.{SoundJob, Soundness, sound, unsound, roomOf, addedOf, topOf, rangeTests, measured, soundness}
+use Rattle.engine.specs.Sound.{Soundness, sound, unsound, roomOf, addedOf, topOf, rangeTests, measured, soundness}
 use Rattle.engine.specs.Nearest.{nearestOf, nearestAnswer}
 use Rattle.engine.specs.NearestFacts.{Numbered}
 use Rattle.engine.specs.declared.Ranged.{Ranged}
 use Rattle.engine.specs.declared.Ranged.the-variants.{Wide, Fault}
-use Rattle.engine.specs.declared.NearestFigures.{NearestFigures}
 use Rattle.engine.specs.declared.NearestAnswer.the-variants as nearest
+use Rattle.engine.proofs.Clashes.{accepted-refused, wide-fault, sound-unsound, made-refused, same-read, same-fault, same-unsound, same-nearest}
 
 numbered : (low high : ℕ) {q r : Refusal} → q ≡ r → T (leb low (refusalNumber q) && leb (refusalNumber q) high) → Numbered low high r
 numbered low high {q = q} e t =
     let (a, b) = and-yes (leb low (refusalNumber q)) _ t in
     subst (Numbered low high) e (record { from = leb-yes a; to = leb-yes b })
 
-same-refusal : {q r : Refusal} → Refused q ≡ Refused r → q ≡ r
-same-refusal e = cc
-
-accepted-not : {job : Job} {r : Refusal} → Accepted job ≡ Refused r → ⊥
-accepted-not e = let z : _≡_ {A = ℕ} 0 1 = cc in omega arith
-
 -- reading a record gives 2 to 7
 read-number : {s : List ℕ} {r : Refusal} (o : Outcome s) → answerFor o ≡ Refused r → Numbered 2 7 r
-read-number (too-short a b) e = numbered 2 7 (same-refusal e) tt
-read-number (not-permitted a b) e = numbered 2 7 (same-refusal e) tt
-read-number (trailing a b) e = numbered 2 7 (same-refusal e) tt
-read-number (out-of-range a b) e = numbered 2 7 (same-refusal e) tt
-read-number (not-spanning a b c) e = numbered 2 7 (same-refusal e) tt
-read-number (falls a b c d) e = numbered 2 7 (same-refusal e) tt
-read-number (passes a b c d) e = absurd (accepted-not e)
-
-same-fault : {q r : Refusal} → Fault q ≡ Fault r → q ≡ r
-same-fault e = cc
-
-wide-not : {i : IndexRange} {r : Refusal} → Wide i ≡ Fault r → ⊥
-wide-not e = let z : _≡_ {A = ℕ} 0 1 = cc in omega arith
-
-same-unsound : {q r : Refusal} → unsound q ≡ unsound r → q ≡ r
-same-unsound e = cc
-
-sound-not : {job : SoundJob} {r : Refusal} → sound job ≡ unsound r → ⊥
-sound-not e = let z : _≡_ {A = ℕ} 0 1 = cc in omega arith
+read-number (too-short a b) e = numbered 2 7 (same-read e) tt
+read-number (not-permitted a b) e = numbered 2 7 (same-read e) tt
+read-number (trailing a b) e = numbered 2 7 (same-read e) tt
+read-number (out-of-range a b) e = numbered 2 7 (same-read e) tt
+read-number (not-spanning a b c) e = numbered 2 7 (same-read e) tt
+read-number (falls a b c d) e = numbered 2 7 (same-read e) tt
+read-number (passes a b c d) e = absurd (accepted-refused e)
 
 -- tests 8, 9 and 10 give 8 to 10
 range-number : (black white : ℕ) (r : Refusal) → rangeTests black white ≡ Fault r → Numbered 8 10 r
@@ -74,7 +54,7 @@ range-number black white r e =
     (λ b. numbered 8 10 (same-fault (simp (a, b) at e)) tt)
     (λ b. by (tooNarrow (rangeOf black white .range .0))
     (λ n. numbered 8 10 (same-fault (simp (a, b, n) at e)) tt)
-    (λ n. absurd (wide-not (simp (a, b, n) at e)))))
+    (λ n. absurd (wide-fault (simp (a, b, n) at e)))))
 
 measured-number : (room added top : ℕ) (ddls luminances : List ℕ) (r : Refusal) → measured room added top ddls luminances ≡ unsound r → Numbered 8 10 r
 unfolding measured
@@ -82,7 +62,7 @@ measured-number room added top ddls luminances r e = go (rangeTests (curveAt add
   where
     go : (x : Ranged) → rangeTests (curveAt added ddls luminances 0) (curveAt added ddls luminances top) ≡ x → Numbered 8 10 r
     go (Fault q) t = subst (Numbered 8 10) (same-unsound (rw t at e)) (range-number _ _ q t)
-    go (Wide indices) t = absurd (sound-not (rw t at e))
+    go (Wide indices) t = absurd (sound-unsound (rw t at e))
 
 -- the part up to test 10 gives 2 to 10
 pub unsound-number : (bytes : List ℕ) (r : Refusal) → T (allUpTo 255 bytes) → soundness bytes ≡ unsound r → Numbered 2 10 r
@@ -100,23 +80,17 @@ unsound-number bytes r small e = go (answerOf bytes) refl
         let n : Numbered 8 10 r = measured-number (roomOf job) (addedOf job) (topOf job) (ddlsIn (sections bytes)) (luminancesIn (sections bytes)) r (rw t at e) in
         record { from = omega (arith, n .from); to = n .to }
 
-same-answer : {q r : Refusal} → nearest.Refused q ≡ nearest.Refused r → q ≡ r
-same-answer e = cc
-
-made-not : {f : NearestFigures} {r : Refusal} → nearest.Made f ≡ nearest.Refused r → ⊥
-made-not e = let z : _≡_ {A = ℕ} 0 1 = cc in omega arith
-
 -- the nearest table gives 1 to 10
 pub nearest-number : (bytes : List ℕ) (lent : ℕ) (r : Refusal) → T (allUpTo 255 bytes) → nearestAnswer bytes lent ≡ nearest.Refused r → Numbered 1 10 r
 unfolding nearestAnswer
 nearest-number bytes lent r small e =
     ⊎-elim
     (λ (long : 256 ≤ lent). go (soundness bytes) refl (simp (le-ltb _ _ long) at e))
-    (λ (short : lent < 256). numbered 1 10 (same-answer (simp (lt-ltb _ _ short) at e)) tt)
+    (λ (short : lent < 256). numbered 1 10 (same-nearest (simp (lt-ltb _ _ short) at e)) tt)
     (le-or-lt 256 lent)
   where
     go : (x : Soundness) → soundness bytes ≡ x → nearestOf x ≡ nearest.Refused r → Numbered 1 10 r
-    go (sound job) t a = absurd (made-not a)
+    go (sound job) t a = absurd (made-refused a)
     go (unsound q) t a =
         let n : Numbered 2 10 q = unsound-number bytes q small t in
-        subst (Numbered 1 10) (same-answer a) (record { from = omega (arith, n .from); to = n .to })
+        subst (Numbered 1 10) (same-nearest a) (record { from = omega (arith, n .from); to = n .to })

@@ -9,7 +9,6 @@ use lib.ListN.{length, getD}
 use Rattle.record.specs.Sections.{sections, ddlsIn, luminancesIn}
 use Rattle.record.specs.Tests.{answerOf}
 use Rattle.record.specs.Accepted.{AcceptedJob}
-use Rattle.record.specs.declared.Refusal.{Refusal}
 use Rattle.record.specs.declared.Answer.{Answer}
 use Rattle.record.specs.declared.Answer.the-variants.{Accepted, Refused}
 use Rattle.record.proofs.Accepted.{accepted-job}
@@ -20,15 +19,13 @@ use Rattle.target.specs.Target.{Aims}
 use Rattle.target.specs.declared.IndexRange.{IndexRange}
 use Rattle.target.proofs.Laws as target
 use Rattle.target.proofs.Ranges.{range-black, range-white, range-between}
-use Rattle.engine.specs.Sound.{SoundJob, sound, unsound, IsSound, roomOf, addedOf, topOf, rangeTests, measured, soundness}
+use Rattle.engine.specs.Sound.{SoundJob, sound, IsSound, roomOf, addedOf, topOf, rangeTests, measured, soundness}
 use Rattle.engine.specs.declared.Ranged.{Ranged}
 use Rattle.engine.specs.declared.Ranged.the-variants.{Wide, Fault}
 use Rattle.engine.proofs.Measuring.{top-low, top-high, order, Passed, through, faulted, made, kept, aims}
 use Rattle.engine.proofs.Reading.{sweep-of}
+use Rattle.engine.proofs.Clashes.{sound-unsound}
 use Rattle.gsdf.specs.Table.{tableB1}
-
-never : {r : Refusal} {job : SoundJob} → unsound r ≡ sound job → ⊥
-never e = let z : _≡_ {A = ℕ} 0 1 = cc in omega arith
 
 module _ {ddls luminances : List ℕ} {top : ℕ} (s : Sweep ddls luminances top) (low : 255 ≤ top) (high : top ≤ 1023) (added room : ℕ) where
   module _ (indices : IndexRange) (e : rangeTests (added + getD luminances 0 0) (added + getD luminances (length luminances - 1) 0) ≡ Wide indices) where
@@ -76,7 +73,7 @@ module _ {ddls luminances : List ℕ} {top : ℕ} (s : Sweep ddls luminances top
   measured-sound job e = go (rangeTests (added + getD luminances 0 0) (added + getD luminances (length luminances - 1) 0)) refl
     where
       go : (x : Ranged) → rangeTests (added + getD luminances 0 0) (added + getD luminances (length luminances - 1) 0) ≡ x → IsSound job
-      go (Fault r) t = absurd (never (sym (faulted s added room r t) ∙ e))
+      go (Fault r) t = absurd (sound-unsound (sym e ∙ faulted s added room r t))
       go (Wide indices) t =
           let f : sound (made s added room indices t) ≡ sound job = sym (kept s added room indices t) ∙ e in
           let same : made s added room indices t ≡ job = cc in
@@ -88,7 +85,7 @@ unfolding soundness
 sound-job bytes job e = go (answerOf bytes) refl
   where
     go : (x : Answer) → answerOf bytes ≡ x → IsSound job
-    go (Refused r) t = absurd (never (rw t at e))
+    go (Refused r) t = absurd (sound-unsound (sym (rw t at e)))
     go (Accepted j) t =
         let a : AcceptedJob bytes j = accepted-job bytes j t in
         let f : measured (roomOf j) (addedOf j) (topOf j) (ddlsIn (sections bytes)) (luminancesIn (sections bytes)) ≡ sound job = rw t at e in

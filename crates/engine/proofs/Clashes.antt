@@ -1,0 +1,42 @@
+-- An answer is one of its cases: two cases are never equal, and equal refusals are the same.
+-- Assumes nothing.
+use mathlib.Core.Path.{_≡_}
+use Prim.Native.Nat.{ℕ}
+use native.Mathlib.Omega.{arith}
+use Rattle.record.specs.declared.Refusal.{Refusal}
+use Rattle.record.specs.declared.Job.{Job}
+use Rattle.record.specs.declared.Answer.the-variants as read
+use Rattle.target.specs.declared.IndexRange.{IndexRange}
+use Rattle.engine.specs.Sound.{SoundJob, sound, unsound}
+use Rattle.engine.specs.declared.Ranged.the-variants.{Wide, Fault}
+use Rattle.engine.specs.declared.Frame.{Frame}
+use Rattle.engine.specs.declared.Prepared.the-variants.{Ready, SentBack}
+use Rattle.engine.specs.declared.NearestFigures.{NearestFigures}
+use Rattle.engine.specs.declared.NearestAnswer.the-variants as nearest
+
+pub accepted-refused : {job : Job} {r : Refusal} → read.Accepted job ≡ read.Refused r → ⊥
+accepted-refused e = let z : _≡_ {A = ℕ} 0 1 = cc in omega arith
+
+pub wide-fault : {indices : IndexRange} {r : Refusal} → Wide indices ≡ Fault r → ⊥
+wide-fault e = let z : _≡_ {A = ℕ} 0 1 = cc in omega arith
+
+pub sound-unsound : {job : SoundJob} {r : Refusal} → sound job ≡ unsound r → ⊥
+sound-unsound e = let z : _≡_ {A = ℕ} 0 1 = cc in omega arith
+
+pub ready-back : {f : Frame} {r : Refusal} → Ready f ≡ SentBack r → ⊥
+ready-back e = let z : _≡_ {A = ℕ} 0 1 = cc in omega arith
+
+pub made-refused : {figures : NearestFigures} {r : Refusal} → nearest.Made figures ≡ nearest.Refused r → ⊥
+made-refused e = let z : _≡_ {A = ℕ} 0 1 = cc in omega arith
+
+pub same-read : {q r : Refusal} → read.Refused q ≡ read.Refused r → q ≡ r
+same-read e = cc
+
+pub same-fault : {q r : Refusal} → Fault q ≡ Fault r → q ≡ r
+same-fault e = cc
+
+pub same-unsound : {q r : Refusal} → unsound q ≡ unsound r → q ≡ r
+same-unsound e = cc
+
+pub same-nearest : {q r : Refusal} → nearest.Refused q ≡ nearest.Refused r → q ≡ r
+same-nearest e = cc
