@@ -1,8 +1,7 @@
--- `Examples`: document 01's marked examples. `Room`: the light of the room. `Ends`: the ends of Table B-1. `Interpolation`: the value between two readings.
+-- `Examples`: document 01's marked examples. `Room`: the light of the room. `Interpolation`: the value between two readings.
 -- `Laws`: the curve of a sweep. `Walk`: the curve, level by level.
 pub mod Examples
 pub mod Room
-pub mod Ends
 pub mod Interpolation
 pub mod Laws
 pub mod Walk

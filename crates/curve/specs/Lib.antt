@@ -1,4 +1,3 @@
 pub mod Room
-pub mod Ends
 pub mod Curve
 pub mod Walk

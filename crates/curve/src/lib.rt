@@ -4,7 +4,6 @@ ghost use mathlib.Core.List.{_++_};
 ghost use Prim.Native.Nat.{_+_, _*_, _-_, _<_, _≤_};
 ghost use lib.ListN.{length, getD, drop};
 ghost use Rattle.curve.specs.Room.{roomLuminance, addedLuminance, roomMark};
-ghost use Rattle.curve.specs.Ends.{belowTable, aboveTable};
 ghost use Rattle.curve.specs.Curve.{interpolate, pairAt, byPair, curveOf};
 ghost use Rattle.curve.specs.Walk.{Between, Reached, Paired, Drawable};
 use record::Meter;
@@ -49,23 +48,6 @@ pub fn room_mark(room: Luminance, first: Luminance) -> RoomMark
         return RoomMark::Low;
     }
     RoomMark::High
-}
-
-// A reading with the light added to it, against the ends of Table B-1. Their sum may need more than 32 bits.
-pub fn is_below_table(added: Luminance, reading: Luminance) -> bool
-    ensures { λ r. ⌜ r ≡ belowTable (added .0 + reading .0) ⌝ }
-{
-    let light = added.0 as u64;
-    let luminance = light + reading.0 as u64;
-    luminance < 500
-}
-
-pub fn is_above_table(added: Luminance, reading: Luminance) -> bool
-    ensures { λ r. ⌜ r ≡ aboveTable (added .0 + reading .0) ⌝ }
-{
-    let light = added.0 as u64;
-    let luminance = light + reading.0 as u64;
-    39934040 < luminance
 }
 
 // The luminance at level d between two readings.

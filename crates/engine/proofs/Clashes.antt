@@ -7,6 +7,7 @@ use Rattle.record.specs.declared.Refusal.{Refusal}
 use Rattle.record.specs.declared.Job.{Job}
 use Rattle.record.specs.declared.Answer.the-variants as read
 use Rattle.target.specs.declared.IndexRange.{IndexRange}
+use Rattle.contrast.specs.declared.Verdict.the-variants.{Pass, Fail}
 use Rattle.engine.specs.Sound.{SoundJob, sound, unsound}
 use Rattle.engine.specs.declared.Ranged.the-variants.{Wide, Fault}
 use Rattle.engine.specs.declared.Frame.{Frame}
@@ -29,6 +30,9 @@ ready-back e = let z : _≡_ {A = ℕ} 0 1 = cc in omega arith
 pub made-refused : {figures : NearestFigures} {r : Refusal} → nearest.Made figures ≡ nearest.Refused r → ⊥
 made-refused e = let z : _≡_ {A = ℕ} 0 1 = cc in omega arith
 
+pub pass-fail : Pass ≡ Fail → ⊥
+pass-fail e = let z : _≡_ {A = ℕ} 0 1 = cc in omega arith
+
 pub same-read : {q r : Refusal} → read.Refused q ≡ read.Refused r → q ≡ r
 same-read e = cc
 
@@ -37,6 +41,9 @@ same-fault e = cc
 
 pub same-unsound : {q r : Refusal} → unsound q ≡ unsound r → q ≡ r
 same-unsound e = cc
+
+pub same-sound : {i j : SoundJob} → sound i ≡ sound j → i ≡ j
+same-sound e = cc
 
 pub same-nearest : {q r : Refusal} → nearest.Refused q ≡ nearest.Refused r → q ≡ r
 same-nearest e = cc

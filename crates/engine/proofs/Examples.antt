@@ -10,6 +10,7 @@ use Rattle.gsdf.specs.DisplayFunction.{jndLuminance, luminanceAfter, luminanceO
 use Rattle.gsdf.proofs.Laws.{index-is}
 use Rattle.curve.proofs.Examples.{first-third, second-third}
 use Rattle.nearest.proofs.Examples.{tie-low, past-tie, tie-plateau}
+use Rattle.contrast.proofs.Examples.{tenth-deviates, tenth-passes, past-tenth-deviates, past-tenth-fails, fall-deviates}
 use Rattle.engine.specs.MarkedExamples.{MarkedExamples}
 
 -- an index by a test that antt computes
@@ -34,4 +35,9 @@ marked-examples = record {
   nearest-15 = tie-low;
   nearest-16 = past-tie;
   nearest-25 = tie-plateau;
+  deviation-9-31 = tenth-deviates;
+  limit-9-31 = tenth-passes;
+  deviation-900-3101 = past-tenth-deviates;
+  limit-900-3101 = past-tenth-fails;
+  deviation-11000-10999 = fall-deviates;
 }

@@ -5,7 +5,13 @@ pub mod Measuring
 pub mod Reading
 pub mod Soundness
 pub mod Ready
+pub mod Conditions
 pub mod NearestOutcomes
 pub mod Nearest
 pub mod NearestFacts
+pub mod Checking
+pub mod CheckTests
+pub mod CheckOutcomes
+pub mod Check
+pub mod CheckFacts
 pub mod Refusals

@@ -1,6 +1,6 @@
 -- An accepted job and its sweep: the tests, and what a sound job makes.
 -- Assumes nothing.
-use mathlib.Core.Path.{_≡_, refl, sym, subst, _∙_}
+use mathlib.Core.Path.{_≡_, refl, sym, ap, subst, _∙_}
 use mathlib.Core.Logic.{⊎-elim}
 use mathlib.Core.List.{List, _++_}
 use Prim.Native.Nat.{ℕ, _+_, _-_, _≤_}
@@ -9,22 +9,26 @@ use native.Mathlib.Omega.{arith}
 use lib.ListN.{length, getD, drop}
 use borrow.Author.Tests.{ltb-false}
 use Rattle.laws.proofs.Cases.{by}
+use Rattle.units.specs.declared.Luminance.{Luminance}
 use Rattle.gsdf.specs.Table.{tableB1}
 use Rattle.record.specs.Tests.{maxDdl}
 use Rattle.record.specs.declared.Refusal.{Refusal}
-use Rattle.curve.specs.Room.{roomMark}
-use Rattle.curve.specs.Ends.{belowTable, aboveTable}
-use Rattle.curve.specs.Curve.{curveAt, curveOf, Sweep}
+use Rattle.record.specs.declared.Job.{Job}
+use Rattle.curve.specs.Room.{addedLuminance, roomMark}
+use Rattle.gsdf.specs.Ends.{belowTable, aboveTable}
+use Rattle.curve.specs.Curve.{curveAt, curveOf}
 use Rattle.curve.specs.Walk.{Drawable}
 use Rattle.curve.specs.declared.RoomMark.{RoomMark}
-use Rattle.curve.proofs.Ends.{not-below, not-above}
+use Rattle.gsdf.proofs.Ends.{not-below, not-above}
 use Rattle.curve.proofs.Laws as curve
 use Rattle.target.specs.Target.{rangeOf, tooNarrow, targetsOf, Aims}
 use Rattle.target.specs.declared.IndexRange.{IndexRange}
 use Rattle.target.proofs.Laws as target
 use Rattle.target.proofs.Ranges.{range-low, range-high, range-between}
-use Rattle.engine.specs.Sound.{SoundJob, Soundness, sound, unsound, rangeTests, measured}
-use Rattle.engine.specs.Preparing.{Prepares}
+use Rattle.engine.specs.Sound.{SoundJob, Soundness, sound, unsound, roomOf, addedOf, topOf, rangeTests, measured}
+use Rattle.engine.specs.Preparing.{lightOf, sweepTests, Climbs, Measurable, Prepares}
+use Rattle.engine.specs.declared.Light.{Light}
+use Rattle.engine.specs.declared.Ranged.{Ranged}
 use Rattle.engine.specs.declared.Ranged.the-variants.{Wide, Fault}
 use Rattle.engine.specs.declared.Prepared.the-variants.{Ready, SentBack}
 use Rattle.engine.proofs.Clashes.{wide-fault}
@@ -69,70 +73,93 @@ passed black white indices e =
       wide = rw is (ltb-false _ _ n);
     })))
 
--- ---- the display, by A0, A, M and its sweep
+-- ---- the light of a job
 
-module _ {ddls luminances : List ℕ} {top : ℕ} (s : Sweep ddls luminances top) where
-  pub first-last : getD luminances 0 0 ≤ getD luminances (length luminances - 1) 0
-  first-last = s .keep .keeps 0 (length luminances - 1) (omega arith) (omega (arith, s .pairs, s .some))
+pub light-is : (job : Job) (room added : Luminance) → room .0 ≡ roomOf job → added .0 ≡ addedLuminance (job .settings .meter) (room .0)
+    → record { room = room; added = added } ≡ lightOf job
+light-is job room added er ea =
+    ap (λ (n : ℕ). record { room = record { 0 = n }; added = added }) er
+    ∙ ap (λ (n : ℕ). record { room = record { 0 = roomOf job }; added = record { 0 = n } }) (ea ∙ ap (addedLuminance (job .settings .meter)) er)
 
-  module _ (added : ℕ) where
-    pub order : added + getD luminances 0 0 ≤ added + getD luminances (length luminances - 1) 0
-    order = omega (arith, first-last)
+-- the tests by the light that is worked out from the job
+pub tested : (job : Job) (luminances : List ℕ) (light : Light) (x : Ranged) → light ≡ lightOf job → sweepTests (light .added .0) luminances ≡ x → sweepTests (addedOf job) luminances ≡ x
+tested job luminances light x el t = sym (ap (λ (l : Light). sweepTests (l .added .0) luminances) el) ∙ t
 
-    black-is : curveAt added ddls luminances 0 ≡ added + getD luminances 0 0
-    black-is = curve.curve-first s added
+-- ---- an accepted job and its sweep
 
-    white-is : curveAt added ddls luminances top ≡ added + getD luminances (length luminances - 1) 0
-    white-is = curve.curve-last s added ∙ rw (s .pairs)
+module _ {job : Job} {ddls luminances : List ℕ} (m : Measurable job ddls luminances) where
+  pub climbs : Climbs luminances
+  climbs = record {
+    some = omega (arith, m .sweep .pairs, m .sweep .some);
+    order = m .sweep .keep .keeps 0 (length luminances - 1) (omega arith) (omega (arith, m .sweep .pairs, m .sweep .some));
+  }
 
-    -- a display that a test sends back
-    module _ (room : ℕ) (r : Refusal) (e : rangeTests (added + getD luminances 0 0) (added + getD luminances (length luminances - 1) 0) ≡ Fault r) where
-      pub faulted : measured room added top ddls luminances ≡ unsound r
-      unfolding measured
-      faulted = simp (black-is, white-is, e)
+  pub order : addedOf job + getD luminances 0 0 ≤ addedOf job + getD luminances (length luminances - 1) 0
+  order = omega (arith, climbs .order)
 
-    -- and one that is not
-    module _ (room : ℕ) (indices : IndexRange) (e : rangeTests (added + getD luminances 0 0) (added + getD luminances (length luminances - 1) 0) ≡ Wide indices) where
-      pub through : Passed (added + getD luminances 0 0) (added + getD luminances (length luminances - 1) 0) indices
-      through = passed _ _ _ e
+  black-is : curveAt (addedOf job) ddls luminances 0 ≡ addedOf job + getD luminances 0 0
+  black-is = curve.curve-first (m .sweep) (addedOf job)
 
-      abbrev pub made : SoundJob
-      made = record {
-        curve = curveOf added ddls luminances top;
-        targets = targetsOf (indices .low .0) (indices .range .0) 255;
-        indices = indices;
-        mark = roomMark room (getD luminances 0 0);
-      }
+  white-is : curveAt (addedOf job) ddls luminances (topOf job) ≡ addedOf job + getD luminances (length luminances - 1) 0
+  white-is = curve.curve-last (m .sweep) (addedOf job) ∙ rw (m .sweep .pairs)
 
-      pub kept : measured room added top ddls luminances ≡ sound made
-      unfolding measured
-      kept = simp (black-is, white-is, e)
+  -- one that a test sends back
+  pub faulted : (r : Refusal) → sweepTests (addedOf job) luminances ≡ Fault r → measured job ddls luminances ≡ unsound r
+  unfolding measured
+  faulted r e = simp (black-is, white-is, e)
 
-      pub drawable : (curve : List ℕ) → top ≤ 1023 → length curve ≡ 1024 → Drawable ddls luminances top added curve
-      drawable curve h l = record {
-        sweep = s;
-        wide = rw (sym (s .pairs)) (omega (arith, through .high));
-        levels = omega arith;
-        fits = omega arith;
-      }
+  -- and one that is not
+  module _ (indices : IndexRange) (e : sweepTests (addedOf job) luminances ≡ Wide indices) where
+    pub through : Passed (addedOf job + getD luminances 0 0) (addedOf job + getD luminances (length luminances - 1) 0) indices
+    through = passed _ _ _ e
 
-      pub aims : (table : List ℕ) → table ≡ tableB1 → Aims table (indices .low .0) (indices .range .0) 255
-      aims table lent = record {
-        lent = lent;
-        first = rw (through .is) (range-low _ _);
-        last = rw (through .is) (omega (arith, range-between (added + getD luminances 0 0) (added + getD luminances (length luminances - 1) 0) (through .low) order, range-high (added + getD luminances 0 0) (added + getD luminances (length luminances - 1) 0)));
-        some = omega arith;
-        most = omega arith;
-      }
+    abbrev pub made-of : SoundJob
+    made-of = record {
+      accepted = job;
+      curve = curveOf (addedOf job) ddls luminances (topOf job);
+      targets = targetsOf (indices .low .0) (indices .range .0) 255;
+      indices = indices;
+      mark = roomMark (roomOf job) (getD luminances 0 0);
+    }
 
-      pub ready : (mark : RoomMark) (curve₀ curve₁ targets₀ targets₁ : List ℕ) → mark ≡ roomMark room (getD luminances 0 0)
-          → curve₁ ≡ curveOf added ddls luminances top ++ drop (top + 1) curve₀
+    pub kept : measured job ddls luminances ≡ sound made-of
+    unfolding measured
+    kept = simp (black-is, white-is, e)
+
+    pub aims : (table : List ℕ) → table ≡ tableB1 → Aims table (indices .low .0) (indices .range .0) 255
+    aims table lent = record {
+      lent = lent;
+      first = rw (through .is) (range-low _ _);
+      last = rw (through .is) (omega (arith, range-between (addedOf job + getD luminances 0 0) (addedOf job + getD luminances (length luminances - 1) 0) (through .low) order, range-high (addedOf job + getD luminances 0 0) (addedOf job + getD luminances (length luminances - 1) 0)));
+      some = omega arith;
+      most = omega arith;
+    }
+
+    -- by the light and the highest level that are worked out from it
+    module _ (light : Light) (el : light ≡ lightOf job) (top : ℕ) (et : top ≡ topOf job) where
+      pub top-fits : top ≤ 1023
+      top-fits = omega (arith, et, top-high (job .settings .depth) (m .depth-low) (m .depth-high))
+
+      pub drawable : (curve : List ℕ) → length curve ≡ 1024 → Drawable ddls luminances top (light .added .0) curve
+      drawable curve l = rw (el, et) (record {
+        sweep = m .sweep;
+        wide = rw (sym (m .sweep .pairs)) (omega (arith, through .high));
+        levels = omega (arith, top-fits);
+        fits = omega (arith, top-fits);
+      })
+
+      pub ready : (mark : RoomMark) (curve₀ curve₁ targets₀ targets₁ : List ℕ) → mark ≡ roomMark (light .room .0) (getD luminances 0 0)
+          → curve₁ ≡ curveOf (light .added .0) ddls luminances top ++ drop (top + 1) curve₀
           → targets₁ ≡ targetsOf (indices .low .0) (indices .range .0) 255 ++ drop 256 targets₀
-          → Prepares (measured room added top ddls luminances) (Ready (record { levels = top + 1; indices = indices; mark = mark })) curve₀ curve₁ targets₀ targets₁
-      ready mark curve₀ curve₁ targets₀ targets₁ em ec et =
-          let lc : length (curveOf added ddls luminances top) ≡ top + 1 = curve.curve-length s added in
+          → Prepares (measured job ddls luminances) (Ready (record { levels = top + 1; indices = indices; mark = mark })) curve₀ curve₁ targets₀ targets₁
+      ready mark curve₀ curve₁ targets₀ targets₁ em ec ea =
+          let lc : length (curveOf (addedOf job) ddls luminances (topOf job)) ≡ topOf job + 1 = curve.curve-length (m .sweep) (addedOf job) in
           let lt : length (targetsOf (indices .low .0) (indices .range .0) 255) ≡ 256 = target.targets-length (indices .low .0) (indices .range .0) 255 in
-          rw kept (record { answers = rw (lc, em); curve = rw lc ec; targets = rw lt et })
+          let em′ : mark ≡ roomMark (roomOf job) (getD luminances 0 0) = em ∙ ap (λ (x : Light). roomMark (x .room .0) (getD luminances 0 0)) el in
+          let ec′ : curve₁ ≡ curveOf (addedOf job) ddls luminances (topOf job) ++ drop (topOf job + 1) curve₀ =
+          ec ∙ ap (λ (x : Light). curveOf (x .added .0) ddls luminances top ++ drop (top + 1) curve₀) el
+          ∙ ap (λ (t : ℕ). curveOf (addedOf job) ddls luminances t ++ drop (t + 1) curve₀) et in
+          rw kept (record { answers = rw (lc, em′, et); curve = rw lc ec′; targets = rw lt ea })
 
 -- nothing is written for a job that is sent back
 pub nothing-written : (x : Soundness) (r : Refusal) (curve targets : List ℕ) → x ≡ unsound r → Prepares x (SentBack r) curve curve targets targets

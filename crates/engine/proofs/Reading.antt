@@ -1,8 +1,8 @@
 -- From an accepted record to its measured display.
 -- Assumes nothing.
-use mathlib.Core.Path.{_≡_, sym, ap, _∙_}
+use mathlib.Core.Path.{_≡_, sym, _∙_}
 use mathlib.Core.List.{List}
-use Prim.Native.Nat.{ℕ, _-_, _≤_}
+use Prim.Native.Nat.{ℕ}
 use native.Mathlib.Numerals.{add-one}
 use native.Mathlib.Omega.{arith}
 use lib.ListN.{length, take, length-take}
@@ -17,35 +17,14 @@ use Rattle.record.specs.declared.Job.{Job}
 use Rattle.record.specs.declared.JobRecord.{JobRecord}
 use Rattle.record.specs.declared.Answer.the-variants.{Accepted, Refused}
 use Rattle.record.proofs.Accepted.{accepted-job}
-use Rattle.curve.specs.Room.{addedLuminance}
 use Rattle.curve.specs.Curve.{Sweep}
-use Rattle.engine.specs.Sound.{Soundness, unsound, roomOf, addedOf, topOf, measured, afterReading, soundness}
-use Rattle.engine.specs.Preparing.{Measurable, Prepares}
+use Rattle.engine.specs.Sound.{Soundness, unsound, topOf, measured, soundness}
+use Rattle.engine.specs.Preparing.{InFront, Measurable, Prepares}
 use Rattle.engine.specs.declared.Prepared.{Prepared}
-use Rattle.engine.proofs.Measuring.{top-high}
 
 pub as-sound : (x y : Soundness) (r : Prepared) (curve₀ curve₁ targets₀ targets₁ : List ℕ) → x ≡ y
     → Prepares y r curve₀ curve₁ targets₀ targets₁ → Prepares x r curve₀ curve₁ targets₀ targets₁
 as-sound x y r curve₀ curve₁ targets₀ targets₁ e h = rw e h
-
--- ---- a job with its sweep
-
-module _ {job : Job} {ddls luminances : List ℕ} {n : ℕ} (m : Measurable job ddls luminances n) where
-  pub top-fits : (top : ℕ) → top ≡ topOf job → top ≤ 1023
-  top-fits top e = rw e (top-high (job .settings .depth) (m .depth-low) (m .depth-high))
-
-  pub sweep-to : (top : ℕ) → top ≡ topOf job → Sweep (take n ddls) (take n luminances) top
-  sweep-to top e = rw e (m .sweep)
-
-pub measures : (job : Job) (room added top : ℕ) (ddls luminances : List ℕ) (r : Prepared) (curve₀ curve₁ targets₀ targets₁ : List ℕ)
-    → room ≡ roomOf job → added ≡ addedLuminance (job .settings .meter) room → top ≡ topOf job
-    → Prepares (measured room added top ddls luminances) r curve₀ curve₁ targets₀ targets₁
-    → Prepares (measured (roomOf job) (addedOf job) (topOf job) ddls luminances) r curve₀ curve₁ targets₀ targets₁
-measures job room added top ddls luminances r curve₀ curve₁ targets₀ targets₁ er ea et h =
-    as-sound _ (measured room added top ddls luminances) r curve₀ curve₁ targets₀ targets₁
-    (sym (ap (λ (x : ℕ). measured x added top ddls luminances) er
-    ∙ ap (λ (x : ℕ). measured (roomOf job) x top ddls luminances) (ea ∙ ap (addedLuminance (job .settings .meter)) er)
-    ∙ ap (λ (x : ℕ). measured (roomOf job) (addedOf job) x ddls luminances) et)) h
 
 -- ---- a record
 
@@ -60,22 +39,27 @@ module _ {s : List ℕ} {job : Job} (a : AcceptedJob s job) where
     keep = keeps-by-steps (luminancesIn (sections s)) (λ i h. rw (add-one i) (a .luminances-keep i (omega arith)));
   }
 
+  pub measurable : Measurable job (ddlsIn (sections s)) (luminancesIn (sections s))
+  measurable = record { depth-low = a .depth-low; depth-high = a .depth-high; sweep = sweep-of }
+
 module _ {s : List ℕ} {r : JobRecord} (h : ReadFrom s r) where
   module _ (job : Job) (e : r .answer ≡ Accepted job) where
-    pub measurable : Measurable job (r .ddls) (r .luminances) (r .readings)
-    measurable =
-        let a : AcceptedJob s job = accepted-job s job (sym (h .answer) ∙ e) in
+    pub accepted : AcceptedJob s job
+    accepted = accepted-job s job (sym (h .answer) ∙ e)
+
+    pub front-measurable : Measurable job (take (r .readings) (r .ddls)) (take (r .readings) (r .luminances))
+    front-measurable = rw (h .ddls, h .luminances) (measurable accepted)
+
+    pub in-front : InFront (r .readings) (r .ddls) (r .luminances)
+    in-front =
         let n : length (take (r .readings) (r .ddls)) ≡ r .readings = rw (h .ddls) (sym (h .readings)) in
-        let m : length (take (r .readings) (r .luminances)) ≡ r .readings = rw (h .luminances) (a .pairs ∙ sym (h .readings)) in
+        let m : length (take (r .readings) (r .luminances)) ≡ r .readings = rw (h .luminances) (accepted .pairs ∙ sym (h .readings)) in
         record {
-          depth-low = a .depth-low;
-          depth-high = a .depth-high;
           ddls-fit = omega (arith, n, length-take (r .readings) (r .ddls));
           luminances-fit = omega (arith, m, length-take (r .readings) (r .luminances));
-          sweep = rw (h .ddls, h .luminances) (sweep-of a);
         }
 
-    pub sound-as : soundness s ≡ afterReading (Accepted job) (take (r .readings) (r .ddls)) (take (r .readings) (r .luminances))
+    pub sound-as : soundness s ≡ measured job (take (r .readings) (r .ddls)) (take (r .readings) (r .luminances))
     unfolding soundness
     sound-as = rw (sym (h .answer), e, h .ddls, h .luminances)
 

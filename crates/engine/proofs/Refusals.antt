@@ -3,10 +3,12 @@
 use mathlib.Core.Path.{_≡_, refl, subst, _∙_}
 use mathlib.Core.List.{List}
 use mathlib.Core.Bool.{_&&_}
-use mathlib.Core.Logic.{⊎-elim}
+use mathlib.Core.Logic.{inl, inr, ⊎-elim}
 use Prim.Native.Nat.{ℕ, _≤_, _<_}
 use native.Mathlib.Omega.{arith}
 use lib.Dec.{T, leb}
+use lib.IntN.{ℤ}
+use lib.ListN.{length}
 use mir.Facts.{and-yes, leb-yes}
 use borrow.Author.Tests.{le-ltb, lt-ltb}
 use Rattle.laws.proofs.Cases.{by, le-or-lt}
@@ -15,18 +17,24 @@ use Rattle.record.specs.Sections.{sections, ddlsIn, luminancesIn}
 use Rattle.record.specs.Tests.{allUpTo, answerOf}
 use Rattle.record.specs.Outcome.{Outcome, answerFor, Under, too-short, not-permitted, trailing, out-of-range, not-spanning, falls, passes}
 use Rattle.record.specs.declared.Refusal.{Refusal}
+use Rattle.record.specs.declared.Job.{Job}
 use Rattle.record.specs.declared.Answer.{Answer}
 use Rattle.record.specs.declared.Answer.the-variants.{Accepted, Refused}
 use Rattle.record.proofs.Outcomes.{only-under}
-use Rattle.curve.specs.Ends.{belowTable, aboveTable}
+use Rattle.gsdf.specs.Ends.{belowTable, aboveTable}
 use Rattle.curve.specs.Curve.{curveAt}
 use Rattle.target.specs.Target.{rangeOf, tooNarrow}
-use Rattle.engine.specs.Sound.{Soundness, sound, unsound, roomOf, addedOf, topOf, rangeTests, measured, soundness}
+use Rattle.engine.specs.Sound.{Soundness, sound, unsound, addedOf, topOf, rangeTests, measured, soundness}
 use Rattle.engine.specs.Nearest.{nearestOf, nearestAnswer}
 use Rattle.engine.specs.NearestFacts.{Numbered}
+use Rattle.engine.specs.Check.{checkAnswer, checkLent, CheckValues, not-measured, pass, fail, number, CheckOutcome, short, back, unmeasured, outside, narrow, passes, fails}
+use Rattle.engine.specs.CheckFacts.{CheckNumber}
 use Rattle.engine.specs.declared.Ranged.{Ranged}
 use Rattle.engine.specs.declared.Ranged.the-variants.{Wide, Fault}
 use Rattle.engine.specs.declared.NearestAnswer.the-variants as nearest
+use Rattle.engine.specs.declared.CheckAnswer.the-variants as check
+use Rattle.engine.proofs.Conditions.{sent}
+use Rattle.engine.proofs.CheckOutcomes.{some-check}
 use Rattle.engine.proofs.Clashes.{accepted-refused, wide-fault, sound-unsound, made-refused, same-read, same-fault, same-unsound, same-nearest}
 
 numbered : (low high : ℕ) {q r : Refusal} → q ≡ r → T (leb low (refusalNumber q) && leb (refusalNumber q) high) → Numbered low high r
@@ -56,11 +64,14 @@ range-number black white r e =
     (λ n. numbered 8 10 (same-fault (simp (a, b, n) at e)) tt)
     (λ n. absurd (wide-fault (simp (a, b, n) at e)))))
 
-measured-number : (room added top : ℕ) (ddls luminances : List ℕ) (r : Refusal) → measured room added top ddls luminances ≡ unsound r → Numbered 8 10 r
+measured-number : (job : Job) (ddls luminances : List ℕ) (r : Refusal) → measured job ddls luminances ≡ unsound r → Numbered 8 10 r
 unfolding measured
-measured-number room added top ddls luminances r e = go (rangeTests (curveAt added ddls luminances 0) (curveAt added ddls luminances top)) refl
+measured-number job ddls luminances r e = go (rangeTests (F 0) (F (topOf job))) refl
   where
-    go : (x : Ranged) → rangeTests (curveAt added ddls luminances 0) (curveAt added ddls luminances top) ≡ x → Numbered 8 10 r
+    F : ℕ → ℕ
+    F = curveAt (addedOf job) ddls luminances
+
+    go : (x : Ranged) → rangeTests (F 0) (F (topOf job)) ≡ x → Numbered 8 10 r
     go (Fault q) t = subst (Numbered 8 10) (same-unsound (rw t at e)) (range-number _ _ q t)
     go (Wide indices) t = absurd (sound-unsound (rw t at e))
 
@@ -77,7 +88,7 @@ unsound-number bytes r small e = go (answerOf bytes) refl
         let n : Numbered 2 7 q = read-number (under .outcome) (under .is ∙ t) in
         subst (Numbered 2 10) (same-unsound (rw t at e)) (record { from = n .from; to = omega (arith, n .to) })
     go (Accepted job) t =
-        let n : Numbered 8 10 r = measured-number (roomOf job) (addedOf job) (topOf job) (ddlsIn (sections bytes)) (luminancesIn (sections bytes)) r (rw t at e) in
+        let n : Numbered 8 10 r = measured-number job (ddlsIn (sections bytes)) (luminancesIn (sections bytes)) r (rw t at e) in
         record { from = omega (arith, n .from); to = n .to }
 
 -- the nearest table gives 1 to 10
@@ -94,3 +105,27 @@ nearest-number bytes lent r small e =
     go (unsound q) t a =
         let n : Numbered 2 10 q = unsound-number bytes q small t in
         subst (Numbered 1 10) (same-nearest a) (record { from = omega (arith, n .from); to = n .to })
+
+-- the check gives 1 to 10, 12 or 13
+abbrev Number : CheckValues → Type 0
+Number not-measured = Unit {0}
+Number pass = Unit {0}
+Number fail = Unit {0}
+Number (number n) = CheckNumber n
+
+outcome-number : {bytes : List ℕ} {before after : List ℤ} {x : CheckValues} → T (allUpTo 255 bytes) → CheckOutcome bytes before after x → Number x
+outcome-number small (short h) = record { is = inl (omega arith, omega arith) }
+outcome-number {bytes = bytes} small (back long b) =
+    let u = sent b in
+    let n : Numbered 2 10 (u .refusal) = unsound-number bytes (u .refusal) small (u .is) in
+    record { is = inl (omega (arith, n .from, u .numbered), omega (arith, n .to, u .numbered)) }
+outcome-number small (unmeasured l g z) = tt
+outcome-number small (outside c i h t) = record { is = inr (inl refl) }
+outcome-number small (narrow w h) = record { is = inr (inr refl) }
+outcome-number small (passes w r k) = tt
+outcome-number small (fails w r i h k) = tt
+
+pub check-number : (bytes : List ℕ) (before : List ℤ) (r : Refusal) → T (allUpTo 255 bytes) → checkAnswer bytes (length before) ≡ check.Refused r → CheckNumber (refusalNumber r)
+check-number bytes before r small e =
+    let o : CheckOutcome bytes before (checkLent bytes before) (number (refusalNumber r)) = rw e at (some-check bytes before) in
+    outcome-number small o

@@ -6,9 +6,8 @@ use Prim.Native.Nat.{ℕ, _+_, _-_, _≤_, zero-le}
 use native.Mathlib.Nat.{le-refl, le-trans}
 use native.Mathlib.Omega.{arith}
 use lib.ListN.{length, getD}
-use Rattle.record.specs.Sections.{sections, ddlsIn, luminancesIn}
 use Rattle.record.specs.Tests.{answerOf}
-use Rattle.record.specs.Accepted.{AcceptedJob}
+use Rattle.record.specs.declared.Job.{Job}
 use Rattle.record.specs.declared.Answer.{Answer}
 use Rattle.record.specs.declared.Answer.the-variants.{Accepted, Refused}
 use Rattle.record.proofs.Accepted.{accepted-job}
@@ -19,20 +18,26 @@ use Rattle.target.specs.Target.{Aims}
 use Rattle.target.specs.declared.IndexRange.{IndexRange}
 use Rattle.target.proofs.Laws as target
 use Rattle.target.proofs.Ranges.{range-black, range-white, range-between}
-use Rattle.engine.specs.Sound.{SoundJob, sound, IsSound, roomOf, addedOf, topOf, rangeTests, measured, soundness}
+use Rattle.engine.specs.Sound.{SoundJob, sound, IsSound, addedOf, topOf, measured, soundness}
+use Rattle.engine.specs.Preparing.{sweepTests, Measurable}
 use Rattle.engine.specs.declared.Ranged.{Ranged}
 use Rattle.engine.specs.declared.Ranged.the-variants.{Wide, Fault}
-use Rattle.engine.proofs.Measuring.{top-low, top-high, order, Passed, through, faulted, made, kept, aims}
-use Rattle.engine.proofs.Reading.{sweep-of}
-use Rattle.engine.proofs.Clashes.{sound-unsound}
+use Rattle.engine.proofs.Measuring.{top-low, top-high, order, Passed, through, faulted, made-of, kept, aims}
+use Rattle.engine.proofs.Reading.{measurable}
+use Rattle.engine.proofs.Clashes.{sound-unsound, same-sound}
 use Rattle.gsdf.specs.Table.{tableB1}
 
-module _ {ddls luminances : List ℕ} {top : ℕ} (s : Sweep ddls luminances top) (low : 255 ≤ top) (high : top ≤ 1023) (added room : ℕ) where
-  module _ (indices : IndexRange) (e : rangeTests (added + getD luminances 0 0) (added + getD luminances (length luminances - 1) 0) ≡ Wide indices) where
-    made-sound : IsSound (made s added room indices e)
+module _ {job : Job} {ddls luminances : List ℕ} (m : Measurable job ddls luminances) where
+  module _ (indices : IndexRange) (e : sweepTests (addedOf job) luminances ≡ Wide indices) where
+    made-sound : IsSound (made-of m indices e)
     made-sound =
-        let a : Aims tableB1 (indices .low .0) (indices .range .0) 255 = aims s added room indices e tableB1 refl in
-        let p : Passed (added + getD luminances 0 0) (added + getD luminances (length luminances - 1) 0) indices = through s added room indices e in
+        let s : Sweep ddls luminances (topOf job) = m .sweep in
+        let added : ℕ = addedOf job in
+        let top : ℕ = topOf job in
+        let low : 255 ≤ top = top-low (job .settings .depth) (m .depth-low) (m .depth-high) in
+        let high : top ≤ 1023 = top-high (job .settings .depth) (m .depth-low) (m .depth-high) in
+        let a : Aims tableB1 (indices .low .0) (indices .range .0) 255 = aims m indices e tableB1 refl in
+        let p : Passed (added + getD luminances 0 0) (added + getD luminances (length luminances - 1) 0) indices = through m indices e in
         let n : length luminances ≡ length ddls = s .pairs in
         let lc = curve.curve-length s added in
         record {
@@ -51,17 +56,17 @@ module _ {ddls luminances : List ℕ} {top : ℕ} (s : Sweep ddls luminances top
               });
           black = ap (λ (i : IndexRange). i .low .0) (p .is) ∙ range-black _ _ ∙ ap indexOf (sym (curve.curve-level s added 0 0 zero-le ∙ curve.curve-first s added));
           white =
-              let m : top + 1 - 1 ≡ top = omega arith in
+              let back : top + 1 - 1 ≡ top = omega arith in
               let w : getD (curveOf added ddls luminances top) (length (curveOf added ddls luminances top) - 1) 0 ≡ added + getD luminances (length luminances - 1) 0 =
-              rw (lc, m, n) (curve.curve-level s added top 0 (le-refl top) ∙ curve.curve-last s added) in
+              rw (lc, back, n) (curve.curve-level s added top 0 (le-refl top) ∙ curve.curve-last s added) in
               ap (λ (i : IndexRange). i .high .0) (p .is) ∙ range-white _ _ ∙ ap indexOf (sym w);
-          between = rw (p .is) (range-between _ _ (p .low) (order s added));
+          between = rw (p .is) (range-between _ _ (p .low) (order m));
           wide = p .wide;
           first = target.targets-at (indices .low .0) (indices .range .0) 255 0 0 (omega arith) ∙ target.target-first (indices .low .0) (indices .range .0) 255 (a .first) (a .last) (a .some);
           last =
               target.targets-at (indices .low .0) (indices .range .0) 255 255 0 (omega arith)
               ∙ target.target-last (indices .low .0) (indices .range .0) 255 (a .first) (a .last) (a .some)
-              ∙ ap luminanceOf (rw (p .is) (range-between _ _ (p .low) (order s added)));
+              ∙ ap luminanceOf (rw (p .is) (range-between _ _ (p .low) (order m)));
           targets-in = λ i h.
               rw (target.targets-at (indices .low .0) (indices .range .0) 255 i 0 (omega arith)) (record {
                 low = target.target-low (indices .low .0) (indices .range .0) 255 (a .first) (a .last) (a .some) i (omega arith);
@@ -69,14 +74,13 @@ module _ {ddls luminances : List ℕ} {top : ℕ} (s : Sweep ddls luminances top
               });
         }
 
-  measured-sound : (job : SoundJob) → measured room added top ddls luminances ≡ sound job → IsSound job
-  measured-sound job e = go (rangeTests (added + getD luminances 0 0) (added + getD luminances (length luminances - 1) 0)) refl
+  measured-sound : (made : SoundJob) → measured job ddls luminances ≡ sound made → IsSound made
+  measured-sound made e = go (sweepTests (addedOf job) luminances) refl
     where
-      go : (x : Ranged) → rangeTests (added + getD luminances 0 0) (added + getD luminances (length luminances - 1) 0) ≡ x → IsSound job
-      go (Fault r) t = absurd (sound-unsound (sym e ∙ faulted s added room r t))
+      go : (x : Ranged) → sweepTests (addedOf job) luminances ≡ x → IsSound made
+      go (Fault r) t = absurd (sound-unsound (sym e ∙ faulted m r t))
       go (Wide indices) t =
-          let f : sound (made s added room indices t) ≡ sound job = sym (kept s added room indices t) ∙ e in
-          let same : made s added room indices t ≡ job = cc in
+          let same : made-of m indices t ≡ made = same-sound (sym (kept m indices t) ∙ e) in
           subst IsSound same (made-sound indices t)
 
 -- the job of every record that is sound
@@ -86,7 +90,4 @@ sound-job bytes job e = go (answerOf bytes) refl
   where
     go : (x : Answer) → answerOf bytes ≡ x → IsSound job
     go (Refused r) t = absurd (sound-unsound (sym (rw t at e)))
-    go (Accepted j) t =
-        let a : AcceptedJob bytes j = accepted-job bytes j t in
-        let f : measured (roomOf j) (addedOf j) (topOf j) (ddlsIn (sections bytes)) (luminancesIn (sections bytes)) ≡ sound job = rw t at e in
-        measured-sound (sweep-of a) (top-low (j .settings .depth) (a .depth-low) (a .depth-high)) (top-high (j .settings .depth) (a .depth-low) (a .depth-high)) (addedOf j) (roomOf j) job f
+    go (Accepted j) t = measured-sound (measurable (accepted-job bytes j t)) job (rw t at e)

@@ -7,8 +7,8 @@ use Prim.Native.Nat.{ℕ, _≤_}
 use native.Mathlib.Nat.{le-trans}
 use Rattle.gsdf.specs.Table.{tableB1}
 use Rattle.record.specs.declared.Refusal.the-variants.{BlackBelowTable, WhiteAboveTable, RangeTooNarrow}
-use Rattle.curve.specs.Ends.{belowTable, aboveTable}
-use Rattle.curve.proofs.Ends.{not-below, not-above}
+use Rattle.gsdf.specs.Ends.{belowTable, aboveTable}
+use Rattle.gsdf.proofs.Ends.{not-below, not-above}
 use Rattle.target.specs.Target.{rangeOf, tooNarrow, HasRange}
 use Rattle.target.specs.declared.IndexRange.{IndexRange}
 use Rattle.engine.specs.declared.Ranged.the-variants.{Wide, Fault}

@@ -1,5 +1,9 @@
 pub mod MarkedExamples
 pub mod Sound
+pub mod Conditions
 pub mod Nearest
 pub mod NearestFacts
+pub mod Check
+pub mod CheckFacts
 pub mod Preparing
+pub mod Checking

@@ -1,24 +1,21 @@
 -- The nearest table of a job record.
-use Prim.Native.Nat.{ℕ, _-_, _≤_, _<_}
+use Prim.Native.Nat.{ℕ, _≤_, _<_}
 use mathlib.Core.Path.{_≡_}
 use mathlib.Core.List.{List, _++_}
 use mathlib.Core.Bool.{cond}
 use lib.ListN.{length, getD, drop}
 use lib.Dec.{ltb}
-use Rattle.gsdf.specs.DisplayFunction.{jndLuminance, indexOf}
 use Rattle.record.specs.Refusals.{refusalNumber}
 use Rattle.record.specs.Sections.{sections, ddlsIn, luminancesIn}
-use Rattle.record.specs.Tests.{answerOf}
-use Rattle.record.specs.declared.Refusal.{Refusal}
 use Rattle.record.specs.declared.Refusal.the-variants.{LentTooShort}
 use Rattle.record.specs.declared.Job.{Job}
-use Rattle.record.specs.declared.Answer.the-variants as read
 use Rattle.curve.specs.Room.{roomMark}
-use Rattle.curve.specs.Curve.{curveAt, curveOf}
+use Rattle.curve.specs.Curve.{curveOf}
 use Rattle.curve.specs.declared.RoomMark.{RoomMark}
 use Rattle.target.specs.Target.{targetsOf}
 use Rattle.nearest.specs.Nearest.{nearestTable, largestError}
 use Rattle.engine.specs.Sound.{SoundJob, Soundness, sound, unsound, soundness, roomOf, addedOf, topOf}
+use Rattle.engine.specs.Conditions.{jlo, jhi, N, SendsBack, GoesOn}
 use Rattle.engine.specs.declared.NearestFigures.{NearestFigures}
 use Rattle.engine.specs.declared.NearestAnswer.{NearestAnswer}
 use Rattle.engine.specs.declared.NearestAnswer.the-variants.{Made, Refused}
@@ -63,20 +60,6 @@ abbrev pub valuesOf : NearestAnswer → NearestValues
 valuesOf (Made f) = values (f .indices .low .0) (f .indices .high .0) (f .indices .range .0) (f .mark) (f .error .0)
 valuesOf (Refused r) = number (refusalNumber r)
 
--- F of a job whose record has these bytes
-abbrev pub F : (bytes : List ℕ) → Job → ℕ → ℕ
-F bytes job = curveAt (addedOf job) (ddlsIn (sections bytes)) (luminancesIn (sections bytes))
-
--- Jlo, Jhi and N
-abbrev pub jlo : (bytes : List ℕ) → Job → ℕ
-jlo bytes job = indexOf (F bytes job 0)
-
-abbrev pub jhi : (bytes : List ℕ) → Job → ℕ
-jhi bytes job = indexOf (F bytes job (topOf job))
-
-abbrev pub N : (bytes : List ℕ) → Job → ℕ
-N bytes job = jhi bytes job - jlo bytes job
-
 -- F(0) to F(M), and t(0) to t(255)
 abbrev pub curve : (bytes : List ℕ) → Job → List ℕ
 curve bytes job = curveOf (addedOf job) (ddlsIn (sections bytes)) (luminancesIn (sections bytes)) (topOf job)
@@ -94,20 +77,11 @@ error bytes job = largestError (curve bytes job) (targets bytes job) (table byte
 abbrev pub mark : (bytes : List ℕ) → Job → RoomMark
 mark bytes job = roomMark (roomOf job) (getD (luminancesIn (sections bytes)) 0 0)
 
--- a job that passed tests 1 to 7, and goes on
-pub record Accepts (bytes before : List ℕ) (job : Job) : Type 0 where
-  pub long : 256 ≤ length before
-  pub is : answerOf bytes ≡ read.Accepted job
-
 -- what can come of a record and the entries lent: a number under its condition and no entry changed, or the table
 pub data NearestOutcome (bytes before : List ℕ) : (after : List ℕ) → NearestValues → Type 0 where
   short : length before < 256 → NearestOutcome bytes before before (number 1)
-  unread : {r : Refusal} → 256 ≤ length before → answerOf bytes ≡ read.Refused r → NearestOutcome bytes before before (number (refusalNumber r))
-  black : {job : Job} → Accepts bytes before job → F bytes job 0 < jndLuminance 1 → NearestOutcome bytes before before (number 8)
-  white : {job : Job} → Accepts bytes before job → jndLuminance 1 ≤ F bytes job 0 → jndLuminance 1023 < F bytes job (topOf job) → NearestOutcome bytes before before (number 9)
-  narrow : {job : Job} → Accepts bytes before job → jndLuminance 1 ≤ F bytes job 0 → F bytes job (topOf job) ≤ jndLuminance 1023 → N bytes job < 10000
-      → NearestOutcome bytes before before (number 10)
-  made : {job : Job} → Accepts bytes before job → jndLuminance 1 ≤ F bytes job 0 → F bytes job (topOf job) ≤ jndLuminance 1023 → 10000 ≤ N bytes job
+  back : {n : ℕ} → 256 ≤ length before → SendsBack bytes n → NearestOutcome bytes before before (number n)
+  made : {job : Job} → 256 ≤ length before → GoesOn bytes job
       → NearestOutcome bytes before (table bytes job ++ drop 256 before) (values (jlo bytes job) (jhi bytes job) (N bytes job) (mark bytes job) (error bytes job))
 
 -- what the operation promises of its answer and of the entries after it

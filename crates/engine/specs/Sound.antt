@@ -14,7 +14,7 @@ use Rattle.record.specs.declared.Job.{Job}
 use Rattle.record.specs.declared.Answer.{Answer}
 use Rattle.record.specs.declared.Answer.the-variants.{Accepted, Refused}
 use Rattle.curve.specs.Room.{roomLuminance, addedLuminance, roomMark}
-use Rattle.curve.specs.Ends.{belowTable, aboveTable}
+use Rattle.gsdf.specs.Ends.{belowTable, aboveTable}
 use Rattle.curve.specs.Curve.{curveAt, curveOf}
 use Rattle.curve.specs.declared.RoomMark.{RoomMark}
 use Rattle.target.specs.Target.{rangeOf, tooNarrow, targetsOf}
@@ -24,6 +24,8 @@ use Rattle.engine.specs.declared.Ranged.the-variants.{Wide, Fault}
 
 -- what the operations work with
 pub record SoundJob : Type 0 where
+  -- its settings and lamps
+  pub accepted : Job
   -- F(0) to F(M)
   pub curve : List ℕ
   -- t(0) to t(255)
@@ -58,25 +60,26 @@ rangeTests black white =
     (cond (tooNarrow (rangeOf black white .range .0)) (Fault RangeTooNarrow)
     (Wide (rangeOf black white))))
 
--- what the measurement of a display makes, by A0, A, M and the sweep
-unfoldable pub measured : (room added top : ℕ) (ddls luminances : List ℕ) → Soundness
-measured room added top ddls luminances = after (rangeTests (F 0) (F top))
+-- what an accepted job and its sweep make
+unfoldable pub measured : (job : Job) (ddls luminances : List ℕ) → Soundness
+measured job ddls luminances = after (rangeTests (F 0) (F (topOf job)))
   where
     F : ℕ → ℕ
-    F = curveAt added ddls luminances
+    F = curveAt (addedOf job) ddls luminances
 
     after : Ranged → Soundness
     after (Fault r) = unsound r
     after (Wide indices) = sound (record {
-      curve = curveOf added ddls luminances top;
+      accepted = job;
+      curve = curveOf (addedOf job) ddls luminances (topOf job);
       targets = targetsOf (indices .low .0) (indices .range .0) 255;
       indices = indices;
-      mark = roomMark room (getD luminances 0 0);
+      mark = roomMark (roomOf job) (getD luminances 0 0);
     })
 
 -- what follows the reading of a record and tests 2 to 7
 abbrev pub afterReading : Answer → (ddls luminances : List ℕ) → Soundness
-afterReading (Accepted job) ddls luminances = measured (roomOf job) (addedOf job) (topOf job) ddls luminances
+afterReading (Accepted job) ddls luminances = measured job ddls luminances
 afterReading (Refused r) ddls luminances = unsound r
 
 -- a record of any bytes

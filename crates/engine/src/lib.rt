@@ -1,19 +1,21 @@
 // The operations on a job record: the tests in their order, then the layers below.
 ghost use mathlib.Core.Path.{_≡_};
-ghost use lib.ListN.{take};
+ghost use lib.ListN.{length, take};
 ghost use Prim.Native.Nat.{_+_, _≤_};
-ghost use Rattle.curve.specs.Curve.{Sweep};
-ghost use Rattle.record.specs.declared.Answer.the-variants.{Accepted};
 ghost use Rattle.gsdf.specs.Table.{tableB1};
-ghost use Rattle.engine.specs.Sound.{soundness, measured, afterReading, rangeTests};
-ghost use Rattle.engine.specs.Preparing.{Arrays, Measurable, Prepares};
+ghost use Rattle.engine.specs.Sound.{soundness, measured, rangeTests};
+ghost use Rattle.engine.specs.Preparing.{lightOf, sweepTests, Arrays, Climbs, InFront, Measurable, Prepares};
 ghost use Rattle.engine.specs.Nearest.{NearestPromise};
+ghost use Rattle.engine.specs.Check.{limitParts, contrastAnswer, CheckPromise};
+ghost use Rattle.engine.specs.Checking.{CheckFront, JobChecked};
+use contrast::Contrast;
+use contrast::Verdict;
 use curve::RoomMark;
 use record::Answer;
+use record::Class;
 use record::Job;
 use record::Refusal;
 use target::IndexRange;
-use units::Ddl;
 use units::Luminance;
 use units::PValue;
 
@@ -21,6 +23,12 @@ use units::PValue;
 pub enum Ranged {
     Wide(IndexRange),
     Fault(Refusal),
+}
+
+// The light of a job's room, A0, and what of it is added to its readings, A.
+pub struct Light {
+    pub room: Luminance,
+    pub added: Luminance,
 }
 
 // What a sound job gives beside its curve and its targets.
@@ -48,15 +56,22 @@ pub enum NearestAnswer {
     Refused(Refusal),
 }
 
+// A verdict, or that there is nothing to check.
+pub enum CheckAnswer {
+    Made(Verdict),
+    NotMeasured,
+    Refused(Refusal),
+}
+
 // Tests 8, 9 and 10, by the first and the last reading and the light added to them, with Table B-1 lent.
 fn test_range(b1: &[u32; 1023], added: Luminance, first: Luminance, last: Luminance) -> Ranged
     requires { ⌜ (now b1 ≡ tableB1) × (first .0 ≤ last .0) ⌝ }
     ensures { λ r. ⌜ r ≡ rangeTests (added .0 + first .0) (added .0 + last .0) ⌝ }
 {
-    if curve::is_below_table(added, first) {
+    if gsdf::is_below_table(added, first) {
         return Ranged::Fault(Refusal::BlackBelowTable);
     }
-    if curve::is_above_table(added, last) {
+    if gsdf::is_above_table(added, last) {
         return Ranged::Fault(Refusal::WhiteAboveTable);
     }
     let light = added.0;
@@ -72,34 +87,60 @@ fn test_range(b1: &[u32; 1023], added: Luminance, first: Luminance, last: Lumina
     Ranged::Wide(indices)
 }
 
-// Tests 8, 9 and 10, then the curve and the targets, by A0, A, M and the sweep.
+// Tests 8, 9 and 10 of a sweep, by its first and its last reading.
+fn test_sweep(b1: &[u32; 1023], added: Luminance, luminances: &[u32]) -> Ranged
+    requires { ⌜ (now b1 ≡ tableB1) × Climbs (now luminances) ⌝ }
+    ensures { λ r. ⌜ r ≡ sweepTests (added .0) (now (luminances .entry)) ⌝ }
+{
+    let end = luminances.len() - 1;
+    let darkest = luminances[0];
+    let brightest = luminances[end];
+    test_range(b1, added, Luminance(darkest), Luminance(brightest))
+}
+
+fn light_of(job: Job) -> Light
+    ensures { λ r. ⌜ r ≡ lightOf job ⌝ }
+{
+    let settings = job.settings;
+    let meter = settings.meter;
+    let reflectance = settings.reflectance;
+    let lux = job.lamps;
+    let room = curve::room_luminance(lux, reflectance);
+    let added = curve::added_luminance(meter, room);
+    Light {
+        room: room,
+        added: added,
+    }
+}
+
+// Tests 8, 9 and 10 of an accepted job, then its curve and its targets.
 fn measure(
-    room: Luminance,
-    added: Luminance,
-    top: Ddl,
+    job: Job,
     ddls: &[u16],
     luminances: &[u32],
     curve: &mut [u32],
     targets: &mut [u32],
 ) -> Prepared
-    requires { ⌜ (top .0 ≤ 1023) × Sweep (now ddls) (now luminances) (top .0) × Arrays (now curve) (now targets) ⌝ }
-    ensures { λ r. ⌜ Prepares (measured (room .0) (added .0) (top .0) (now (ddls .entry)) (now (luminances .entry))) r (now (curve .entry)) (now (curve .exit)) (now (targets .entry)) (now (targets .exit)) ⌝ }
+    requires { ⌜ Measurable job (now ddls) (now luminances) × Arrays (now curve) (now targets) ⌝ }
+    ensures { λ r. ⌜ Prepares (measured job (now (ddls .entry)) (now (luminances .entry))) r (now (curve .entry)) (now (curve .exit)) (now (targets .entry)) (now (targets .exit)) ⌝ }
 {
-    let end = luminances.len() - 1;
-    let darkest = luminances[0];
-    let brightest = luminances[end];
-    let first = Luminance(darkest);
-    let last = Luminance(brightest);
+    let light = light_of(job);
+    let added = light.added;
     let b1 = gsdf::table_b1();
-    let found = test_range(&b1, added, first, last);
+    let found = test_sweep(&b1, added, luminances);
     match found {
         Ranged::Fault(r) => Prepared::SentBack(r),
         Ranged::Wide(indices) => {
+            let room = light.room;
+            let first = luminances[0];
+            let mark = curve::room_mark(room, Luminance(first));
+            let settings = job.settings;
+            let depth = settings.depth;
+            let top = record::max_ddl(depth);
             curve::fill_curve(ddls, luminances, top, added, curve);
             let low = indices.low;
             let range = indices.range;
             target::fill_targets(&b1, low, range, PValue(255), targets);
-            let mark = curve::room_mark(room, first);
             let highest = top.0;
             let levels = highest as usize + 1;
             Prepared::Ready(Frame {
@@ -111,8 +152,8 @@ fn measure(
     }
 }
 
-// An accepted job, with the n readings of its sweep at the front of two slices.
-fn measure_job<'a>(
+// The same, with the n readings of the sweep at the front of two slices.
+fn measure_front<'a>(
     job: Job,
     ddls: &'a [u16],
     luminances: &'a [u32],
@@ -120,26 +161,10 @@ fn measure_job<'a>(
     curve: &mut [u32],
     targets: &mut [u32],
 ) -> Prepared
-    requires { ⌜ Measurable job (now ddls) (now luminances) n × Arrays (now curve) (now targets) ⌝ }
-    ensures { λ r. ⌜ Prepares (afterReading (Accepted job) (take n (now (ddls .entry))) (take n (now (luminances .entry)))) r (now (curve .entry)) (now (curve .exit)) (now (targets .entry)) (now (targets .exit)) ⌝ }
+    requires { ⌜ InFront n (now ddls) (now luminances) × Measurable job (take n (now ddls)) (take n (now luminances)) × Arrays (now curve) (now targets) ⌝ }
+    ensures { λ r. ⌜ Prepares (measured job (take n (now (ddls .entry))) (take n (now (luminances .entry)))) r (now (curve .entry)) (now (curve .exit)) (now (targets .entry)) (now (targets .exit)) ⌝ }
 {
-    let settings = job.settings;
-    let depth = settings.depth;
-    let meter = settings.meter;
-    let reflectance = settings.reflectance;
-    let lux = job.lamps;
-    let room = curve::room_luminance(lux, reflectance);
-    let added = curve::added_luminance(meter, room);
-    let top = record::max_ddl(depth);
-    measure(
-        room,
-        added,
-        top,
-        &ddls[..n],
-        &luminances[..n],
-        curve,
-        targets,
-    )
+    measure(job, &ddls[..n], &luminances[..n], curve, targets)
 }
 
 // Tests 2 to 10 of a record, its curve and its targets.
@@ -153,7 +178,7 @@ fn prepare(bytes: &[u8], curve: &mut [u32], targets: &mut [u32]) -> Prepared
         Answer::Refused(r) => Prepared::SentBack(r),
         Answer::Accepted(job) => {
             let n = found.readings;
-            measure_job(job, &found.ddls, &found.luminances, n, curve, targets)
+            measure_front(job, &found.ddls, &found.luminances, n, curve, targets)
         }
     }
 }
@@ -180,6 +205,76 @@ pub fn nearest_table(bytes: &[u8], table: &mut [u16]) -> NearestAnswer
                 mark: mark,
                 error: error,
             })
+        }
+    }
+}
+
+// One part in 10 or in 5.
+fn limit_parts(class: Class) -> u64
+    ensures { λ r. ⌜ r ≡ limitParts class ⌝ }
+{
+    match class {
+        Class::Primary => 10,
+        Class::Secondary => 5,
+    }
+}
+
+fn contrast_answer(contrast: Contrast) -> CheckAnswer
+    ensures { λ r. ⌜ r ≡ contrastAnswer contrast ⌝ }
+{
+    match contrast {
+        Contrast::Judged(verdict) => CheckAnswer::Made(verdict),
+        Contrast::OutsideTable => CheckAnswer::Refused(Refusal::CheckOutsideTable),
+        Contrast::CheckTooNarrow => CheckAnswer::Refused(Refusal::CheckRangeTooNarrow),
+    }
+}
+
+// Tests 8 to 10 of an accepted job, then its check. The n readings of its sweep and the m of its check are at the front of two slices.
+fn check_job<'a>(
+    job: Job,
+    luminances: &'a [u32],
+    n: usize,
+    check: &'a [u32],
+    m: usize,
+    deviations: &mut [i32],
+) -> CheckAnswer
+    requires { ⌜ CheckFront (now luminances) n (now check) m × (17 ≤ length (now deviations)) ⌝ }
+    ensures { λ r. ⌜ JobChecked job (take n (now (luminances .entry))) (take m (now (check .entry))) r (now (deviations .entry)) (now (deviations .exit)) ⌝ }
+{
+    let light = light_of(job);
+    let added = light.added;
+    let b1 = gsdf::table_b1();
+    let found = test_sweep(&b1, added, &luminances[..n]);
+    match found {
+        Ranged::Fault(r) => CheckAnswer::Refused(r),
+        Ranged::Wide(indices) => {
+            if m == 0 {
+                return CheckAnswer::NotMeasured;
+            }
+            let settings = job.settings;
+            let class = settings.class;
+            let parts = limit_parts(class);
+            let contrast = contrast::check(&b1, check, added, parts, deviations);
+            contrast_answer(contrast)
+        }
+    }
+}
+
+// The contrast check of a record; its deviations go into the front of a lent slice.
+pub fn contrast_check(bytes: &[u8], deviations: &mut [i32]) -> CheckAnswer
+    ensures { λ r. ⌜ CheckPromise (now (bytes .entry)) (now (deviations .entry)) (now (deviations .exit)) r ⌝ }
+{
+    if deviations.len() < 17 {
+        return CheckAnswer::Refused(Refusal::LentTooShort);
+    }
+    let found = record::read_record(bytes);
+    let answer = found.answer;
+    match answer {
+        Answer::Refused(r) => CheckAnswer::Refused(r),
+        Answer::Accepted(job) => {
+            let n = found.readings;
+            let m = found.patches;
+            check_job(job, &found.luminances, n, &found.check, m, deviations)
         }
     }
 }

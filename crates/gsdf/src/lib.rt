@@ -1,8 +1,9 @@
 // The Grayscale Standard Display Function of PS3.14: the luminance of a JND index and the JND index of a luminance.
 ghost use mathlib.Core.Path.{_≡_};
-ghost use Prim.Native.Nat.{_≤_};
+ghost use Prim.Native.Nat.{_+_, _≤_};
 ghost use Rattle.gsdf.specs.Table.{tableB1};
 ghost use Rattle.gsdf.specs.DisplayFunction.{jndLuminance, luminanceOf, indexOf, IsIndex, InTable};
+ghost use Rattle.gsdf.specs.Ends.{belowTable, aboveTable};
 use units::JndIndex;
 use units::Luminance;
 
@@ -93,4 +94,21 @@ pub fn index_of(l: Luminance) -> JndIndex
 {
     let table = table_b1();
     index_in(&table, l)
+}
+
+// A reading with the light added to it, against the ends of Table B-1. Their sum may need more than 32 bits.
+pub fn is_below_table(added: Luminance, reading: Luminance) -> bool
+    ensures { λ r. ⌜ r ≡ belowTable (added .0 + reading .0) ⌝ }
+{
+    let light = added.0 as u64;
+    let luminance = light + reading.0 as u64;
+    luminance < 500
+}
+
+pub fn is_above_table(added: Luminance, reading: Luminance) -> bool
+    ensures { λ r. ⌜ r ≡ aboveTable (added .0 + reading .0) ⌝ }
+{
+    let light = added.0 as u64;
+    let luminance = light + reading.0 as u64;
+    39934040 < luminance
 }

@@ -1,15 +1,16 @@
 -- What bounded search finds.
 -- Assumes nothing.
 use Prim.Native.Nat.{ℕ, zero, suc, _+_, _-_, _≤_, _<_, zero-le, suc-le-suc}
-use mathlib.Core.Path.{_≡_, refl, subst}
-use mathlib.Core.Bool.{Bool, false}
+use mathlib.Core.Path.{_≡_, refl, sym, ap, subst, _∙_}
+use mathlib.Core.Bool.{Bool, true, false, _||_, _&&_, or-false, or-assoc}
 use mathlib.Core.Logic.{inl, inr, ⊎-elim}
 use native.Mathlib.Nat.{le-refl, le-of-suc-le-suc, not-suc-le-zero, eq-or-lt-of-le}
+use native.Mathlib.Numerals.{add-one}
 use native.Mathlib.Omega.{arith}
 use lib.Dec.{T}
-use mir.Facts.{T-not, not-T, or-yes}
-use Rattle.laws.specs.Search.{any, lowest, largestOf, largest}
-use Rattle.laws.proofs.Cases.{is-no, chosen, yes-or}
+use mir.Facts.{T-not, not-T, or-yes, and-yes}
+use Rattle.laws.specs.Search.{any, all, lowest, largestOf, largest}
+use Rattle.laws.proofs.Cases.{by, is-yes, is-no, yes-is, chosen, yes-or}
 
 -- ---- upward
 
@@ -25,6 +26,25 @@ unfolding any
 any-none p zero h = refl
 any-none p (suc n) h =
     rw (is-no (p zero) (not-T (p zero) (h zero (omega arith))), any-none (λ i. p (suc i)) n (λ i l. h (suc i) (suc-le-suc l))) refl
+
+-- and where none is found, no number passes
+pub none-of : (p : ℕ → Bool) (n i : ℕ) → any p n ≡ false → i < n → p i ≡ false
+none-of p n i e h = by (p i) (λ t. absurd (rw e at (any-intro p n i h (yes-is t)))) (λ f. f)
+
+pub some-of {ℓ} : {X : Type ℓ} (p : ℕ → Bool) (n : ℕ) → any p n ≡ true → ((i : ℕ) → i < n → p i ≡ true → X) → X
+unfolding any
+some-of p zero e k = absurd (yes-is e)
+some-of p (suc n) e k =
+    by (p zero) (λ t. k zero (omega arith) t) (λ f. some-of (λ i. p (suc i)) n (simp f at e) (λ i h t. k (suc i) (suc-le-suc h) t))
+
+-- one number more
+any-suc : (p : ℕ → Bool) (n : ℕ) → any p (suc n) ≡ any p n || p n
+unfolding any
+any-suc p zero = or-false (p zero)
+any-suc p (suc n) = ap (_||_ (p zero)) (any-suc (λ i. p (suc i)) n) ∙ sym (or-assoc (p zero) _ _)
+
+pub any-next : (p : ℕ → Bool) (n : ℕ) → any p (n + 1) ≡ any p n || p n
+any-next p n = rw (add-one n) (any-suc p n)
 
 -- where some number passes, the lowest does
 pub lowest-passes : (p : ℕ → Bool) (n : ℕ) → T (any p n) → T (p (lowest p n))
@@ -51,6 +71,32 @@ lowest-le p (suc n) (suc i) t =
 pub lowest-is : (p : ℕ → Bool) (n q : ℕ) → q < n → T (p q) → ((j : ℕ) → j < q → T (p j) → ⊥) → lowest p n ≡ q
 lowest-is p n q h t none =
     ⊎-elim (λ e. e) (λ l. absurd (none _ l (lowest-passes p n (any-intro p n q h t)))) (eq-or-lt-of-le (lowest-le p n q t))
+
+-- ---- every number
+
+module _ (p : ℕ → Bool) where
+  pub all-next : (n : ℕ) → all p (n + 1) ≡ all p n && p n
+  unfolding all
+  all-next n = rw add-one
+
+  pub all-of : (n i : ℕ) → all p n ≡ true → i < n → p i ≡ true
+  unfolding all
+  all-of zero i e h = absurd (not-suc-le-zero h)
+  all-of (suc n) i e h =
+      let (rest, last) = and-yes (all p n) (p n) (yes-is e) in
+      ⊎-elim (λ q. rw q (is-yes (p n) last)) (λ l. all-of n i (is-yes (all p n) rest) l) (eq-or-lt-of-le (le-of-suc-le-suc h))
+
+  pub all-intro : (n : ℕ) → ((i : ℕ) → i < n → p i ≡ true) → all p n ≡ true
+  unfolding all
+  all-intro zero h = refl
+  all-intro (suc n) h = rw (all-intro n (λ i l. h i (omega arith)), h n (omega arith))
+
+  -- where not every number passes, some does not
+  pub not-all {ℓ} : {X : Type ℓ} (n : ℕ) → all p n ≡ false → ((i : ℕ) → i < n → p i ≡ false → X) → X
+  unfolding all
+  not-all zero e k = absurd (yes-is (sym e))
+  not-all (suc n) e k =
+      by (p n) (λ t. by (all p n) (λ u. absurd (yes-is (sym (simp (t, u) at e)))) (λ f. not-all n f (λ i l g. k i (omega arith) g))) (λ f. k n (omega arith) f)
 
 -- ---- downward
 

@@ -1,7 +1,7 @@
 -- Bounded search with a test on numbers.
 -- A `let` leaves the rest of a search uncomputed until it is needed, so that an example stops at the number found.
 use Prim.Native.Nat.{ℕ, zero, suc, _+_, _-_}
-use mathlib.Core.Bool.{Bool, false, cond, _||_}
+use mathlib.Core.Bool.{Bool, true, false, cond, _||_, _&&_}
 
 -- some number below n passes the test
 unfoldable pub any : (ℕ → Bool) → ℕ → Bool
@@ -21,3 +21,8 @@ largestOf p lo (suc n) = let rest = largestOf p lo n in cond (p (lo + suc n)) (l
 -- the largest number from lo to hi that passes the test; lo where none does
 abbrev pub largest : (ℕ → Bool) → ℕ → ℕ → ℕ
 largest p lo hi = largestOf p lo (hi - lo)
+
+-- each number below n passes the test
+unfoldable pub all : (ℕ → Bool) → ℕ → Bool
+all p zero = true
+all p (suc n) = all p n && p n

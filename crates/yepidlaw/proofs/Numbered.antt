@@ -3,13 +3,20 @@
 use Prim.Native.Nat.{ℕ}
 use mathlib.Core.List.{List}
 use mathlib.Core.Path.{_≡_, ap, _∙_}
+use lib.IntN.{ℤ}
 use Rattle.record.specs.Refusals.{refusalNumber}
 use Rattle.record.specs.declared.Refusal.{Refusal}
+use Rattle.contrast.specs.declared.Verdict.{Verdict}
 use Rattle.engine.specs.Nearest.{NearestPromise}
+use Rattle.engine.specs.Check.{CheckPromise}
+use Rattle.engine.specs.declared.CheckAnswer.{CheckAnswer}
+use Rattle.engine.specs.declared.CheckAnswer.the-variants as check
 use Rattle.engine.specs.declared.NearestFigures.{NearestFigures}
 use Rattle.engine.specs.declared.NearestAnswer.{NearestAnswer}
 use Rattle.engine.specs.declared.NearestAnswer.the-variants.{Made, Refused}
 use Rattle.yepidlaw.specs.declared.NearestResult.{NearestResult}
+use Rattle.yepidlaw.specs.declared.CheckResult.{CheckResult}
+use Rattle.yepidlaw.specs.Check.{verdictNumber, checkResultOf, CheckCall}
 use Rattle.yepidlaw.specs.Nearest.{markNumber, resultOf, NearestCall}
 
 pub result-made : {answer : NearestAnswer} {figures : NearestFigures} {mark : ℕ} → answer ≡ Made figures → mark ≡ markNumber (figures .mark)
@@ -30,3 +37,20 @@ result-refused e f = rw (e, f)
 pub called : {bytes before after : List ℕ} {answer : NearestAnswer} {result : NearestResult}
     → NearestPromise bytes before after answer → result ≡ resultOf answer → NearestCall bytes before after result
 called h e = record { numbers = e ∙ ap resultOf (h .answers); table = h .table }
+
+-- ---- the check
+
+pub check-judged : {answer : CheckAnswer} {verdict : Verdict} {n : ℕ} → answer ≡ check.Made verdict → n ≡ verdictNumber verdict
+    → record { refusal = 0; verdict = n } ≡ checkResultOf answer
+check-judged e f = rw (e, f)
+
+pub check-none : {answer : CheckAnswer} → answer ≡ check.NotMeasured → record { refusal = 0; verdict = 0 } ≡ checkResultOf answer
+check-none e = rw e
+
+pub check-refused : {answer : CheckAnswer} {r : Refusal} {n : ℕ} → answer ≡ check.Refused r → n ≡ refusalNumber r
+    → record { refusal = n; verdict = 0 } ≡ checkResultOf answer
+check-refused e f = rw (e, f)
+
+pub check-called : {bytes : List ℕ} {before after : List ℤ} {answer : CheckAnswer} {result : CheckResult}
+    → CheckPromise bytes before after answer → result ≡ checkResultOf answer → CheckCall bytes before after result
+check-called h e = record { numbers = e ∙ ap checkResultOf (h .answers); deviations = h .deviations }

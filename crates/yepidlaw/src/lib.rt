@@ -1,7 +1,10 @@
 // The engine's operations through the C ABI; include/yepidlaw.h declares them.
 ghost use mathlib.Core.Path.{_≡_};
 ghost use Rattle.yepidlaw.specs.Nearest.{markNumber, resultOf, NearestCall};
+ghost use Rattle.yepidlaw.specs.Check.{verdictNumber, checkResultOf, CheckCall};
+use contrast::Verdict;
 use curve::RoomMark;
+use engine::CheckAnswer;
 use engine::NearestAnswer;
 
 #[repr(C)]
@@ -73,4 +76,54 @@ pub extern "C" fn yepidlaw_nearest(bytes: &[u8], table: &mut [u16]) -> NearestRe
 {
     let answer = engine::nearest_table(bytes, table);
     nearest_result(answer)
+}
+
+#[repr(C)]
+pub struct CheckResult {
+    // 0 where the check was judged or there is none; else the refusal's number, and the verdict is 0.
+    pub refusal: u32,
+    // 0 not measured, 1 pass, 2 fail.
+    pub verdict: u32,
+}
+
+fn verdict_number(verdict: Verdict) -> u32
+    ensures { λ r. ⌜ r ≡ verdictNumber verdict ⌝ }
+{
+    match verdict {
+        Verdict::Pass => 1,
+        Verdict::Fail => 2,
+    }
+}
+
+fn check_result(answer: CheckAnswer) -> CheckResult
+    ensures { λ r. ⌜ r ≡ checkResultOf answer ⌝ }
+{
+    match answer {
+        CheckAnswer::Made(found) => {
+            let verdict = verdict_number(found);
+            CheckResult {
+                refusal: 0,
+                verdict: verdict,
+            }
+        }
+        CheckAnswer::NotMeasured => CheckResult {
+            refusal: 0,
+            verdict: 0,
+        },
+        CheckAnswer::Refused(r) => {
+            let reason = record::refusal_number(r);
+            CheckResult {
+                refusal: reason,
+                verdict: 0,
+            }
+        }
+    }
+}
+
+#[no_mangle]
+pub extern "C" fn yepidlaw_check(bytes: &[u8], deviations: &mut [i32]) -> CheckResult
+    ensures { λ r. ⌜ CheckCall (now (bytes .entry)) (now (deviations .entry)) (now (deviations .exit)) r ⌝ }
+{
+    let answer = engine::contrast_check(bytes, deviations);
+    check_result(answer)
 }

@@ -5,8 +5,8 @@ use Rattle.engine.proofs.test_range.Statement.{statement}
 use Rattle.engine.proofs.test_range.Tie as tie
 use Rattle.engine.proofs.test_range.Reads as reads
 use Rattle.engine.proofs.test_range.Lts as lts
-use Rattle.curve.proofs.is_above_table.Reads as is-above-table-reads
-use Rattle.curve.proofs.is_below_table.Reads as is-below-table-reads
+use Rattle.gsdf.proofs.is_above_table.Reads as is-above-table-reads
+use Rattle.gsdf.proofs.is_below_table.Reads as is-below-table-reads
 use Rattle.target.proofs.index_range.Reads as index-range-reads
 use Rattle.target.proofs.is_too_narrow.Reads as is-too-narrow-reads
 

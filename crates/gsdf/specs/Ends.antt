@@ -1,8 +1,8 @@
--- A luminance against the ends of Table B-1, for tests 8 and 9.
+-- A luminance against the ends of Table B-1, for tests 8, 9 and 12.
 use Prim.Native.Nat.{ℕ}
 use mathlib.Core.Bool.{Bool}
 use lib.Dec.{ltb}
 use Rattle.gsdf.specs.DisplayFunction.{jndLuminance}
 
 -- below T(1)
 unfoldable pub belowTable : ℕ → Bool

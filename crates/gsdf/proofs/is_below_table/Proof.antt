@@ -1,9 +1,9 @@
-use Rattle.curve.proofs.Ends.{below-is}
+use Rattle.gsdf.proofs.Ends.{below-is}
 use borrow.Author.Needs.{needs}
-use Rattle.curve.proofs.is_below_table.Statement.{statement}
-use Rattle.curve.proofs.is_below_table.Tie as tie
-use Rattle.curve.proofs.is_below_table.Reads as reads
-use Rattle.curve.proofs.is_below_table.Lts as lts
+use Rattle.gsdf.proofs.is_below_table.Statement.{statement}
+use Rattle.gsdf.proofs.is_below_table.Tie as tie
+use Rattle.gsdf.proofs.is_below_table.Reads as reads
+use Rattle.gsdf.proofs.is_below_table.Lts as lts
 
 -- src/lib.rt:56:17
 cast-light : tie.Need-cast-light

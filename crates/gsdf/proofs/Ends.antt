@@ -6,9 +6,9 @@ use Prim.Native.Nat.{ℕ, _≤_}
 use native.Mathlib.Omega.{arith}
 use lib.Dec.{ltb}
 use borrow.Author.Tests.{ltb-false}
 use Rattle.gsdf.specs.DisplayFunction.{jndLuminance}
 use Rattle.gsdf.proofs.TableRule.{jnd-first, jnd-last}
-use Rattle.curve.specs.Ends.{belowTable, aboveTable}
+use Rattle.gsdf.specs.Ends.{belowTable, aboveTable}
 
 pub below-is : (l : ℕ) → ltb l 500 ≡ belowTable l
 unfolding belowTable

@@ -1,0 +1,64 @@
+-- The contrast check of a record: each way that the operation ends.
+-- Assumes nothing.
+use mathlib.Core.Path.{_≡_, refl, sym, ap, _∙_}
+use mathlib.Core.List.{List}
+use mathlib.Core.Logic.{inl, inr, ⊎-elim}
+use Prim.Native.Nat.{ℕ, _≤_, _<_}
+use lib.Dec.{eqb}
+use lib.IntN.{ℤ}
+use lib.ListN.{length, take}
+use mir.Facts.{or-yes, eqb-yes}
+use borrow.Author.Tests.{le-ltb, lt-ltb}
+use Rattle.record.specs.Sections.{sections, checkIn}
+use Rattle.record.specs.Reader.{ReadFrom}
+use Rattle.record.specs.declared.Refusal.{Refusal}
+use Rattle.record.specs.declared.Refusal.the-variants.{LentTooShort}
+use Rattle.record.specs.declared.Job.{Job}
+use Rattle.record.specs.declared.JobRecord.{JobRecord}
+use Rattle.record.specs.declared.Answer.the-variants.{Accepted}
+use Rattle.engine.specs.Sound.{SoundJob, Soundness, sound, unsound, soundness, addedOf}
+use Rattle.engine.specs.Preparing.{sweepTests}
+use Rattle.engine.specs.Check.{checkAfter, checkAnswer, placesOver, checkLent, CheckPromise}
+use Rattle.engine.specs.Checking.{CheckFront, jobAnswer, jobPlaces, JobChecked}
+use Rattle.engine.specs.declared.Ranged.{Ranged}
+use Rattle.engine.specs.declared.Ranged.the-variants.{Wide, Fault}
+use Rattle.engine.specs.declared.CheckAnswer.{CheckAnswer}
+use Rattle.engine.specs.declared.CheckAnswer.the-variants.{Refused}
+use Rattle.engine.proofs.Measuring.{climbs, faulted, kept}
+use Rattle.engine.proofs.Reading.{accepted, front-measurable, in-front, sound-as}
+use Rattle.engine.proofs.CheckOutcomes.{promised}
+
+module _ (bytes : List ℕ) (before : List ℤ) where
+  pub check-short : length before < 17 → CheckPromise bytes before before (Refused LentTooShort)
+  unfolding checkAnswer checkLent
+  check-short h = promised bytes before before (Refused LentTooShort) (simp (lt-ltb _ _ h)) (simp (lt-ltb _ _ h))
+
+  module _ (long : 17 ≤ length before) where
+    -- by the soundness of the record
+    ended : {x : Soundness} {answer : CheckAnswer} {after : List ℤ} → soundness bytes ≡ x → answer ≡ checkAfter x (checkIn (sections bytes))
+        → after ≡ placesOver x (checkIn (sections bytes)) before → CheckPromise bytes before after answer
+    unfolding checkAnswer checkLent
+    ended e a p = promised bytes before _ _ (simp (le-ltb _ _ long, e) a) (simp (le-ltb _ _ long, e) p)
+
+    pub check-back : (r : Refusal) → soundness bytes ≡ unsound r → CheckPromise bytes before before (Refused r)
+    check-back r e = ended e refl refl
+
+    module _ {r : JobRecord} (h : ReadFrom bytes r) (job : Job) (e : r .answer ≡ Accepted job) where
+      pub check-front : length (r .check) ≡ 18 → CheckFront (r .luminances) (r .readings) (r .check) (r .patches)
+      check-front n = record {
+        luminances-fit = in-front h job e .luminances-fit;
+        climbs = climbs (front-measurable h job e);
+        patches =
+            let k = length (checkIn (sections bytes)) in
+            ⊎-elim (λ z. inl (h .patches ∙ eqb-yes z)) (λ z. inr (h .patches ∙ eqb-yes z)) (or-yes (eqb k 0) (eqb k 18) (accepted h job e .patches));
+        check-fits = n;
+      }
+
+      pub check-made : {answer : CheckAnswer} {after : List ℤ} → JobChecked job (take (r .readings) (r .luminances)) (take (r .patches) (r .check)) answer before after
+          → CheckPromise bytes before after answer
+      check-made {answer = answer} {after = after} c = go (sweepTests (addedOf job) (take (r .readings) (r .luminances))) refl (rw (h .check) at (c .answers)) (rw (h .check) at (c .places))
+        where
+          go : (x : Ranged) → sweepTests (addedOf job) (take (r .readings) (r .luminances)) ≡ x → answer ≡ jobAnswer x job (checkIn (sections bytes))
+              → after ≡ jobPlaces x job (checkIn (sections bytes)) before → CheckPromise bytes before after answer
+          go (Fault f) t a p = ended (sound-as h job e ∙ faulted (front-measurable h job e) f t) a p
+          go (Wide indices) t a p = ended (sound-as h job e ∙ kept (front-measurable h job e) indices t) a p
