@@ -4,7 +4,7 @@
  * of its elements; the pointer may be null where that number is 0. Beyond what C asks of pointers (so many elements are there, aligned, and no two
  * slices overlap) nothing is asked of the caller.
  *
- * Luminances are in units of 0.0001 cd/m², JND indices in hundredths of a JND. */
+ * Luminances are in units of 0.0001 cd/m², JND indices in hundredths of a JND, deviations of contrast in parts per thousand. */
 #ifndef YEPIDLAW_H
 #define YEPIDLAW_H
 
@@ -33,6 +33,23 @@ struct yepidlaw_nearest {
  * Where refusal is 0, table[P] is the drive level of P-value P, 0 to 255, and entries from 256 on are as they were.
  * Else no entry was changed. */
 struct yepidlaw_nearest yepidlaw_nearest(const uint8_t *record, size_t n, uint16_t *table, size_t m);
+
+/* The verdict of a contrast check. */
+struct yepidlaw_check {
+    uint32_t refusal; /* 0: the check was made, or the record holds none; else the number of the refusal, 1 to 10, 12 or 13, and verdict is 0 */
+    uint32_t verdict; /* 0 not measured, the record holds no check readings; 1 pass; 2 fail */
+};
+
+/* The contrast check of a job record: 18 grey patches, and 17 steps from one to the next.
+ *
+ * record, n       the job record and its number of bytes, any bytes
+ * deviations, m   the places lent for the deviations and their number; fewer than 17 are refused, with number 1
+ *
+ * Where refusal is 0 and verdict is not, deviations[i] is how far the contrast between the patches i and i + 1 is from the one expected, i from 0
+ * to 16, in parts per thousand of that one: signed, negative where the contrast is too low, rounded toward minus infinity. Places from 17 on are as they were.
+ * Else no place was changed. The verdict is that of the deviations before they are rounded: at most 10 % either way for a primary display, 20 % for
+ * a secondary one. */
+struct yepidlaw_check yepidlaw_check(const uint8_t *record, size_t n, int32_t *deviations, size_t m);
 
 #ifdef __cplusplus
 }

@@ -9,12 +9,16 @@ use std::time::Instant;
 
 use compare::gsdf::{raw, Table};
 use compare::record::{self, RecordValues};
-use compare::yepidlaw::{self, Nearest};
-use reference::record::Record;
+use compare::yepidlaw::{self, Check, Nearest};
 
+mod contrast_in_rust;
 mod gsdf_in_rust;
 mod nearest_in_rust;
 mod record_in_rust;
+mod records;
+
+const PASS: u32 = 1;
+const FAIL: u32 = 2;
 
 #[derive(Clone, Copy)]
 enum Function {
@@ -22,6 +26,8 @@ enum Function {
     Index,
     Record,
     Nearest,
+    /// With the verdict that both sides should give.
+    Check(u32),
 }
 
 #[derive(Clone, Copy, PartialEq)]
@@ -30,7 +36,7 @@ enum Side {
     Rust,
 }
 
-/// The inputs of `Function::Record` and `Function::Nearest` are places in the list of records.
+/// The inputs of `Function::Record`, `Function::Nearest` and `Function::Check` are places in the list of records.
 struct Case {
     name: &'static str,
     function: Function,
@@ -41,28 +47,6 @@ struct Case {
 struct Material {
     table: Table,
     records: Vec<Vec<u8>>,
-}
-
-/// Records of depth 10 with 8 lamps and a check: two readings, 64 and 1,024. Then the jobs.
-fn records() -> Vec<Vec<u8>> {
-    let record = |readings: u64| Record {
-        settings: vec![10, 0, 1, 60, 100],
-        lamps: (0..8).map(|i| 100 + i).collect(),
-        ddls: (0..readings).map(|i| 1023 * i / (readings - 1)).collect(),
-        luminances: (0..readings).map(|i| 1_000 + 3_000 * i).collect(),
-        check: (0..18).map(|i| 10_000 + 1_000 * i).collect(),
-    };
-    [2, 64, 1024].map(record).iter().chain(&jobs()).map(Record::bytes).collect()
-}
-
-/// Sound jobs: two readings at depth 8, 64 with lamps at depth 10, 1,024 with a check. The readings rise with the square of the level.
-fn jobs() -> [Record; 3] {
-    let job = |depth: u64, lamps: &[u64], readings: u64, check: &[u64]| {
-        let ddls: Vec<u64> = (0..readings).map(|i| ((1 << depth) - 1) * i / (readings - 1)).collect();
-        let luminances = ddls.iter().map(|ddl| 5_000 + 3_500_000 * ddl * ddl / (1 << (2 * depth))).collect();
-        Record { settings: vec![depth, 0, 1, 60, 100], lamps: lamps.to_vec(), ddls, luminances, check: check.to_vec() }
-    };
-    [job(8, &[], 2, &[]), job(10, &[10, 20, 30, 40, 50, 60, 70, 80], 64, &[]), job(10, &[], 1024, &[5_000; 18])]
 }
 
 /// A number to which each part of the values contributes.
@@ -78,6 +62,12 @@ fn digest_of_table(result: &Nearest, table: &[u16; 256]) -> u32 {
     let numbers = [result.refusal, result.jlo, result.jhi, result.range, result.room_high, result.error];
     let numbers: u32 = (1..).zip(numbers).map(|(weight, value)| weight * value).sum();
     numbers + u32::from(table[0]) + u32::from(table[128]) + u32::from(table[255])
+}
+
+/// The same for a contrast check.
+fn digest_of_deviations(result: &Check, deviations: &[i32; 17]) -> u32 {
+    let sum: i32 = (1..).zip(deviations).map(|(weight, deviation)| weight * deviation).sum();
+    result.refusal + 100 * result.verdict + sum.unsigned_abs()
 }
 
 /// A small generator (xorshift) with a fixed seed, so that each run has the same inputs.
@@ -112,6 +102,9 @@ fn cases() -> Vec<Case> {
         Case { name: "nearest-2", function: Function::Nearest, inputs: vec![3; 1_000] },
         Case { name: "nearest-64", function: Function::Nearest, inputs: vec![4; 1_000] },
         Case { name: "nearest-1024", function: Function::Nearest, inputs: vec![5; 1_000] },
+        Case { name: "check-1024", function: Function::Check(PASS), inputs: vec![6; 1_000] },
+        Case { name: "check-52", function: Function::Check(PASS), inputs: vec![7; 1_000] },
+        Case { name: "check-failing", function: Function::Check(FAIL), inputs: vec![8; 1_000] },
     ]
 }
 
@@ -122,6 +115,7 @@ fn each(case: &Case, side: Side, material: &Material, mut take: impl FnMut(u32))
     let bytes = |&place: &u32| &material.records[place as usize][..];
     let inputs = case.inputs.iter();
     let mut lent = [0; 256];
+    let mut deviations = [0; 17];
     match (case.function, side) {
         (Function::Luminance, Side::Engine) => inputs.for_each(|&k| take(unsafe { raw::gsdf_luminance_in(entries.as_ptr(), k) })),
         (Function::Luminance, Side::Rust) => inputs.for_each(|&k| take(gsdf_in_rust::luminance_in(entries, k))),
@@ -136,6 +130,14 @@ fn each(case: &Case, side: Side, material: &Material, mut take: impl FnMut(u32))
         (Function::Nearest, Side::Rust) => inputs.for_each(|place| {
             let result = nearest_in_rust::nearest(entries, bytes(place), &mut lent);
             take(digest_of_table(&result, &lent));
+        }),
+        (Function::Check(_), Side::Engine) => inputs.for_each(|place| {
+            let result = yepidlaw::check(bytes(place), &mut deviations);
+            take(digest_of_deviations(&result, &deviations));
+        }),
+        (Function::Check(_), Side::Rust) => inputs.for_each(|place| {
+            let result = contrast_in_rust::check(entries, bytes(place), &mut deviations);
+            take(digest_of_deviations(&result, &deviations));
         }),
     }
 }
@@ -158,6 +160,15 @@ fn same_table(bytes: &[u8], material: &Material) -> bool {
     engine == rust && engine.refusal == 0 && of_engine == of_rust
 }
 
+/// Whether the two sides give this verdict for a record, and the same deviations.
+fn same_deviations(bytes: &[u8], verdict: u32, material: &Material) -> bool {
+    let mut of_engine = [1; 17];
+    let mut of_rust = [2; 17];
+    let engine = yepidlaw::check(bytes, &mut of_engine);
+    let rust = contrast_in_rust::check(material.table.entries(), bytes, &mut of_rust);
+    engine == rust && engine == Check { refusal: 0, verdict } && of_engine == of_rust
+}
+
 /// Compares the results of the two sides for every case; whether all are equal.
 fn check(cases: &[Case], material: &Material) -> bool {
     let results = |case: &Case, side| {
@@ -165,11 +176,13 @@ fn check(cases: &[Case], material: &Material) -> bool {
         each(case, side, material, |result| all.push(result));
         all
     };
-    let same_tables = |case: &Case| match case.function {
-        Function::Nearest => case.inputs.iter().all(|&place| same_table(&material.records[place as usize], material)),
+    let bytes = |&place: &u32| &material.records[place as usize][..];
+    let same_slices = |case: &Case| match case.function {
+        Function::Nearest => case.inputs.iter().all(|place| same_table(bytes(place), material)),
+        Function::Check(verdict) => case.inputs.iter().all(|place| same_deviations(bytes(place), verdict, material)),
         _ => true,
     };
-    let same = |case: &Case| results(case, Side::Engine) == results(case, Side::Rust) && same_tables(case);
+    let same = |case: &Case| results(case, Side::Engine) == results(case, Side::Rust) && same_slices(case);
     let passed = cases.iter().filter(|case| same(case)).count();
     println!("{} passed, {} failed", passed, cases.len() - passed);
     passed == cases.len()
@@ -199,7 +212,7 @@ fn times(cases: &[Case], material: &Material) {
 }
 
 fn main() {
-    let material = Material { table: Table::of_engine(), records: records() };
+    let material = Material { table: Table::of_engine(), records: records::records() };
     let cases = cases();
     let words: Vec<String> = std::env::args().skip(1).collect();
     let words: Vec<&str> = words.iter().map(String::as_str).collect();

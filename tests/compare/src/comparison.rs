@@ -44,13 +44,11 @@ impl Comparison {
 }
 
 /// The first place where two lists differ.
-pub fn field<T: Copy + Into<u64>>(name: &str, got: &[T], expected: &[u64]) -> Option<String> {
-    let got: Vec<u64> = got.iter().map(|&value| value.into()).collect();
-    if got == expected {
-        return None;
-    }
-    let place = (0..).find(|&place| got.get(place) != expected.get(place))?;
-    Some(format!("{name}, place {place}: got {:?}, expected {:?}", got.get(place), expected.get(place)))
+pub fn field<T: Copy + Into<i128>, U: Copy + Into<i128>>(name: &str, got: &[T], expected: &[U]) -> Option<String> {
+    let got_at = |place| got.get(place).map(|&value: &T| value.into());
+    let expected_at = |place| expected.get(place).map(|&value: &U| value.into());
+    let place = (0..got.len().max(expected.len())).find(|&place| got_at(place) != expected_at(place))?;
+    Some(format!("{name}, place {place}: got {:?}, expected {:?}", got_at(place), expected_at(place)))
 }
 
 /// As many bytes as can be looked at.

@@ -1,6 +1,8 @@
 //! Job records of every kind, drawn from a seeded generator.
+mod checks;
 pub mod damage;
 mod ends;
+pub mod limits;
 mod panels;
 
 use reference::gsdf::Gsdf;
@@ -8,6 +10,15 @@ use reference::record::Record;
 
 use crate::random::Random;
 pub use panels::{Shape, SHAPES};
+
+/// How many jobs the gate runs, and from which seed.
+pub const COUNT: u64 = 20_000;
+pub const SEED: u64 = 14;
+
+/// For the jobs, and for what is lent with them: each operation gets the same jobs.
+pub fn generators(seed: u64) -> [Random; 2] {
+    [seed, !seed].map(Random::new)
+}
 
 /// A job record, with the shape of its sweep where it was made from one and not damaged.
 pub struct Job {
@@ -26,21 +37,18 @@ fn room(random: &mut Random, record: &mut Record) {
     };
 }
 
-/// A record without damage: sound, or refused for what it holds under 8, 9 or 10.
+/// A record without damage: sound, or refused for what it holds under 8, 9 or 10; its check under 12 or 13.
 fn undamaged(random: &mut Random, gsdf: &Gsdf) -> (Record, Shape) {
     let depth = random.between(8, 10);
     let any_tolerance = random.below(1_001);
     let tolerance = random.one_of(&[0, 50, 1_000, any_tolerance]);
-    let mut record = Record {
-        settings: vec![depth, random.below(2), random.between(1, 2), 0, tolerance],
-        check: (0..random.one_of(&[0, 18])).map(|_| random.luminance()).collect(),
-        ..Record::default()
-    };
+    let mut record = Record { settings: vec![depth, random.below(2), random.between(1, 2), 0, tolerance], ..Record::default() };
     room(random, &mut record);
     let ends = ends::draw(random, gsdf, &mut record);
     let shape = random.one_of(&SHAPES);
     let (ddls, luminances) = panels::sweep(random, gsdf, shape, &ends, record.last_ddl());
-    (Record { ddls, luminances, ..record }, shape)
+    let check = checks::draw(random, gsdf, &record, &ends);
+    (Record { ddls, luminances, check, ..record }, shape)
 }
 
 /// Nothing, any bytes, or any after the first count.

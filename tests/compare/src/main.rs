@@ -5,20 +5,27 @@
 
 use reference::engine::Engine;
 
+mod check_tests;
 mod comparison;
 mod gsdf_tests;
 mod jobs;
+mod lent;
 mod nearest_tests;
 mod random;
 mod record_tests;
 mod tally;
 
-use nearest_tests::{generated_results, SEED};
-
 fn everything(reference: &Engine) -> Vec<bool> {
     let mut results = gsdf_tests::results(&reference.gsdf);
     results.extend(record_tests::results());
     results.extend(nearest_tests::results(reference));
+    results.extend(check_tests::results(reference));
+    results
+}
+
+fn drawn_jobs(reference: &Engine, count: u64, seed: u64) -> Vec<bool> {
+    let mut results = nearest_tests::generated_results(reference, count, seed);
+    results.extend(check_tests::generated_results(reference, count, seed));
     results
 }
 
@@ -27,8 +34,8 @@ fn main() {
     let numbers: Result<Vec<u64>, _> = std::env::args().skip(1).map(|word| word.parse()).collect();
     let results = match numbers.as_deref() {
         Ok([]) => everything(&reference),
-        Ok([count]) => generated_results(&reference, *count, SEED),
-        Ok([count, seed]) => generated_results(&reference, *count, *seed),
+        Ok([count]) => drawn_jobs(&reference, *count, jobs::SEED),
+        Ok([count, seed]) => drawn_jobs(&reference, *count, *seed),
         _ => {
             eprintln!("usage: compare [COUNT [SEED]]");
             std::process::exit(2);

@@ -1,69 +1,22 @@
 //! The nearest table of a job record, engine against reference, and both against what document 01 says where it says it outright.
-mod every;
+pub mod every;
 mod generated;
-mod order;
-mod stated;
+pub mod order;
+pub mod stated;
 
 use compare::yepidlaw::{self, Nearest};
 use reference::engine::{Engine, Sound};
 use reference::nearest::Table;
 
-use crate::comparison::{field, start, Comparison};
+use crate::comparison::{field, Comparison};
+use crate::jobs;
+use crate::lent;
 use crate::random::Random;
-pub use generated::{results as generated_results, SEED};
+pub use generated::results as generated_results;
 
-/// Entries before and after a lent slice, which nobody may touch.
-const AROUND: usize = 40;
 const ENTRIES: usize = 256;
 
-/// A record and a slice to lend. The record ends where its memory ends; the slice is filled with noise, and has entries around it.
-#[derive(Clone)]
-struct Lent {
-    /// One byte, so that the record stands at an odd address, and the record.
-    bytes: Vec<u8>,
-    memory: Vec<u16>,
-    /// The place of the first entry lent: even, or odd, where its address is 2 more than a multiple of 4.
-    first: usize,
-}
-
-impl Lent {
-    fn new(random: &mut Random, record: &[u8], entries: usize) -> Lent {
-        let first = AROUND + random.place(2);
-        let memory = (0..first + entries + AROUND).map(|_| random.below(65_536) as u16).collect();
-        Lent { bytes: [&[255][..], record].concat(), memory, first }
-    }
-
-    fn record(&self) -> &[u8] {
-        &self.bytes[1..]
-    }
-
-    fn entries(&self) -> usize {
-        self.memory.len() - self.first - AROUND
-    }
-
-    fn slice(&mut self) -> &mut [u16] {
-        let end = self.memory.len() - AROUND;
-        &mut self.memory[self.first..end]
-    }
-
-    /// The engine's result. An allocation begins at a multiple of 4, which is tested here.
-    fn nearest(&mut self) -> Nearest {
-        assert_eq!(self.bytes.capacity(), self.bytes.len());
-        assert_eq!(self.record().as_ptr() as usize % 2, 1);
-        assert_eq!(self.slice().as_ptr() as usize % 4, 2 * (self.first % 2));
-        let end = self.memory.len() - AROUND;
-        yepidlaw::nearest_of_writable(&mut self.bytes[1..], &mut self.memory[self.first..end])
-    }
-}
-
-/// The first place where two memories differ; many entries are compared, so at once.
-fn memory<T: Copy + Into<u64> + PartialEq>(name: &str, got: &[T], expected: &[T]) -> Option<String> {
-    if got == expected {
-        return None;
-    }
-    let expected: Vec<u64> = expected.iter().map(|&value| value.into()).collect();
-    field(name, got, &expected)
-}
+type Lent = lent::Lent<u16>;
 
 /// What the operation gives: its result, and what was lent as it is then.
 #[derive(Clone)]
@@ -75,7 +28,8 @@ struct Answer {
 impl Answer {
     fn of_engine(lent: &Lent) -> Answer {
         let mut lent = lent.clone();
-        let result = lent.nearest();
+        let (record, table) = lent.parts();
+        let result = yepidlaw::nearest_of_writable(record, table);
         Answer { result, lent }
     }
 
@@ -118,30 +72,7 @@ impl Answer {
             .or_else(|| number("N", got.range, result.range))
             .or_else(|| number("room mark", got.room_high, result.room_high))
             .or_else(|| number("largest error", got.error, result.error))
-            .or_else(|| memory(&format!("entries, the first lent at place {}", self.lent.first), &self.lent.memory, &expected.lent.memory))
-            .or_else(|| memory("record, its first byte at place 1", &self.lent.bytes, &expected.lent.bytes))
-    }
-}
-
-/// Comparisons of answers; each input counts as one, with its whole answer.
-struct Answers(Comparison);
-
-impl Answers {
-    fn new(name: &'static str) -> Answers {
-        Answers(Comparison::new(name))
-    }
-
-    fn count(&mut self, lent: &Lent, difference: Option<String>) {
-        let input = self.0.seen();
-        let bytes = lent.record();
-        let about = |difference| {
-            format!("input {input} ({} bytes, {} entries lent, {:?}): {difference}", bytes.len(), lent.entries(), start(bytes))
-        };
-        self.0.count(difference.map(about));
-    }
-
-    fn ended(self, expected: u64) -> bool {
-        self.0.ended(expected)
+            .or_else(|| self.lent.difference(&expected.lent))
     }
 }
 
@@ -188,6 +119,6 @@ pub fn results(reference: &Engine) -> Vec<bool> {
     results.extend(stated::results(reference));
     results.push(order::lowest_number(reference));
     results.extend(every::results(reference));
-    results.extend(generated_results(reference, generated::JOBS, SEED));
+    results.extend(generated_results(reference, jobs::COUNT, jobs::SEED));
     results
 }

@@ -54,15 +54,18 @@ fn engine_difference(got: &RecordValues, expected: &Answer) -> Option<String> {
         .or_else(|| field("check", check, &read.check))
 }
 
-/// Making a nearest table refuses what reading refuses, and else nothing but a curve: under 8, 9 or 10.
-fn nearest_difference(refusal: u32, number: u32) -> Option<String> {
-    let agrees = if number == 0 { matches!(refusal, 0 | 8..=10) } else { refusal == number };
-    (!agrees).then(|| format!("nearest gives number {refusal}, reading {number}"))
+/// The operations refuse what reading refuses, and else nothing but a curve: under 8, 9 or 10; and a check besides under 12 or 13.
+fn operations_difference([nearest, check]: [u32; 2], number: u32) -> Option<String> {
+    let agrees = match number {
+        0 => matches!(nearest, 0 | 8..=10) && (check == nearest || nearest == 0 && matches!(check, 12 | 13)),
+        _ => nearest == number && check == number,
+    };
+    (!agrees).then(|| format!("nearest gives number {nearest}, check {check}, reading {number}"))
 }
 
-/// The number under which a nearest table is refused, 0 for none.
-fn nearest_number(bytes: &[u8]) -> u32 {
-    yepidlaw::nearest(bytes, &mut [0; 256]).refusal
+/// The numbers under which a nearest table and a check are refused, 0 for none.
+fn operations_numbers(bytes: &[u8]) -> [u32; 2] {
+    [yepidlaw::nearest(bytes, &mut [0; 256]).refusal, yepidlaw::check(bytes, &mut [0; 17]).refusal]
 }
 
 fn reference_difference(got: &Answer, expected: &Answer) -> Option<String> {
@@ -70,7 +73,7 @@ fn reference_difference(got: &Answer, expected: &Answer) -> Option<String> {
     number.or_else(|| (got != expected).then(|| "what was read".to_string()))
 }
 
-/// Comparisons of records; each input counts as one, with all its values and the number of its nearest table.
+/// Comparisons of records; each input counts as one, with all its values and the numbers that the operations give.
 struct Records(Comparison);
 
 impl Records {
@@ -106,7 +109,7 @@ impl Records {
 
     fn count(&mut self, bytes: &[u8], number: u32, difference: Option<String>) {
         let input = self.0.seen();
-        let difference = difference.or_else(|| nearest_difference(nearest_number(bytes), number));
+        let difference = difference.or_else(|| operations_difference(operations_numbers(bytes), number));
         self.0.count(difference.map(|difference| format!("input {input} ({} bytes, {:?}): {difference}", bytes.len(), start(bytes))));
     }
 
@@ -163,7 +166,7 @@ const CHANGES: [Change; 21] = [
     |values| values.check[17] -= 1,
 ];
 
-/// The comparison sees every change of the engine's values, of the reference's and of the number of the nearest table.
+/// The comparison sees every change of the engine's values, of the reference's and of the operations' numbers.
 fn differences_are_seen() -> bool {
     let mut all = Comparison::new("record: differences are seen");
     let unseen = |seen: Option<String>| seen.map_or(Some("a difference is not seen".to_string()), |_| None);
@@ -180,10 +183,14 @@ fn differences_are_seen() -> bool {
     for got in [Answer { number: 5, record: Some(record) }, Answer { number: 0, record: None }, Answer { number: 0, record: Some(other) }] {
         all.count(unseen(reference_difference(&got, &expected)));
     }
-    for (refusal, number) in [(1, 0), (2, 0), (7, 0), (11, 0), (0, 2), (0, 7), (3, 2), (2, 3), (8, 7), (10, 5)] {
-        all.count(unseen(nearest_difference(refusal, number)));
+    for (nearest, number) in [(1, 0), (2, 0), (7, 0), (11, 0), (0, 2), (0, 7), (3, 2), (2, 3), (8, 7), (10, 5)] {
+        all.count(unseen(operations_difference([nearest, nearest], number)));
     }
-    all.ended(34)
+    for (nearest, check, number) in [(0, 1, 0), (0, 8, 0), (0, 11, 0), (8, 0, 0), (8, 12, 0), (10, 13, 0), (2, 0, 2), (7, 12, 7), (5, 6, 5)]
+    {
+        all.count(unseen(operations_difference([nearest, check], number)));
+    }
+    all.ended(43)
 }
 
 pub fn results() -> Vec<bool> {

@@ -16,10 +16,21 @@ pub struct Nearest {
     pub error: u32,
 }
 
+/// What a contrast check gives.
+#[derive(Clone, Copy, Debug, PartialEq)]
+#[repr(C)]
+pub struct Check {
+    /// 0 for a result, else its number; the verdict of a refusal is 0.
+    pub refusal: u32,
+    /// 0 not measured, 1 pass, 2 fail.
+    pub verdict: u32,
+}
+
 /// The functions as they are.
 pub mod raw {
     extern "C" {
         pub fn yepidlaw_nearest(record: *const u8, n: usize, table: *mut u16, m: usize) -> super::Nearest;
+        pub fn yepidlaw_check(record: *const u8, n: usize, deviations: *mut i32, m: usize) -> super::Check;
     }
 }
 
@@ -30,4 +41,13 @@ pub fn nearest(record: &[u8], table: &mut [u16]) -> Nearest {
 /// The same with a record that can be written, so that the compiler does not take it for unchanged.
 pub fn nearest_of_writable(record: &mut [u8], table: &mut [u16]) -> Nearest {
     unsafe { raw::yepidlaw_nearest(record.as_mut_ptr(), record.len(), table.as_mut_ptr(), table.len()) }
+}
+
+pub fn check(record: &[u8], deviations: &mut [i32]) -> Check {
+    unsafe { raw::yepidlaw_check(record.as_ptr(), record.len(), deviations.as_mut_ptr(), deviations.len()) }
+}
+
+/// The same with a record that can be written.
+pub fn check_of_writable(record: &mut [u8], deviations: &mut [i32]) -> Check {
+    unsafe { raw::yepidlaw_check(record.as_mut_ptr(), record.len(), deviations.as_mut_ptr(), deviations.len()) }
 }

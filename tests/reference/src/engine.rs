@@ -1,4 +1,5 @@
 //! The operations on a job record: the tests in order, then the result.
+use crate::contrast::{Contrast, STEPS};
 use crate::curve;
 use crate::gsdf::Gsdf;
 use crate::nearest::{self, Table};
@@ -58,5 +59,19 @@ impl Engine {
         let job = self.sound(bytes)?;
         let table = nearest::table(&job.curve, &job.targets);
         Ok((job, table))
+    }
+
+    /// The job and its contrast check, for a lent slice of so many places, or the first of 1 to 10, 12 and 13 that it meets. A job with 0 check items has no check.
+    pub fn check(&self, bytes: &[u8], places: usize) -> Result<(Sound, Option<Contrast>), u32> {
+        if places < STEPS {
+            return Err(1);
+        }
+        let job = self.sound(bytes)?;
+        if job.record.check.is_empty() {
+            return Ok((job, None));
+        }
+        let measured = job.record.check.iter().map(|reading| reading + job.added).collect();
+        let contrast = Contrast::of(&self.gsdf, measured, job.record.class())?;
+        Ok((job, Some(contrast)))
     }
 }

@@ -107,6 +107,11 @@ impl Record {
         self.settings[1]
     }
 
+    /// 1 primary, 2 secondary.
+    pub fn class(&self) -> u64 {
+        self.settings[2]
+    }
+
     /// Rd.
     pub fn reflectance(&self) -> u64 {
         self.settings[3]

@@ -18,7 +18,7 @@ impl Range {
         self.jhi - self.jlo
     }
 
-    /// t(0) to t(top), where the P-value `top` stands for Jhi.
+    /// t(0) to t(top), where the P-value `top` stands for Jhi; e(0) to e(17) of a check in the same way.
     pub fn targets(&self, gsdf: &Gsdf, top: u64) -> Vec<u64> {
         (0..=top).map(|p| gsdf.luminance(self.jlo + self.width() * p / top)).collect()
     }

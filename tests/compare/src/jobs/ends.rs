@@ -6,8 +6,8 @@ use reference::target::Range;
 
 use crate::random::Random;
 
-const LEAST_RANGE: u64 = 10_000;
-const LARGEST_READING: u64 = u32::MAX as u64;
+pub const LEAST_RANGE: u64 = 10_000;
+pub const LARGEST_READING: u64 = u32::MAX as u64;
 
 /// The first and the last reading as recorded, and A.
 pub struct Ends {
@@ -42,7 +42,7 @@ fn luminance_at(random: &mut Random, gsdf: &Gsdf, k: u64) -> u64 {
 }
 
 /// F(0) for a sound job, if the room is not too bright for one; the darkest that the room allows, near it or anywhere above.
-fn darkest(random: &mut Random, gsdf: &Gsdf, record: &Record) -> u64 {
+pub fn darkest(random: &mut Random, gsdf: &Gsdf, record: &Record) -> u64 {
     let added = added_luminance(record);
     let lowest = if added < gsdf.darkest() { FIRST_INDEX } else { gsdf.index(added) };
     let free = (LAST_INDEX - LEAST_RANGE).saturating_sub(lowest);
@@ -56,7 +56,7 @@ fn darkest(random: &mut Random, gsdf: &Gsdf, record: &Record) -> u64 {
 }
 
 /// F(M) for a sound job that begins at this luminance: N at its least, near it or anywhere above.
-fn brightest(random: &mut Random, gsdf: &Gsdf, darkest: u64) -> u64 {
+pub fn brightest(random: &mut Random, gsdf: &Gsdf, darkest: u64) -> u64 {
     let least = LAST_INDEX.min(gsdf.index(darkest) + LEAST_RANGE);
     let free = LAST_INDEX - least;
     let above = match random.below(5) {

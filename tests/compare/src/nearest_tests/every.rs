@@ -2,7 +2,8 @@
 use reference::engine::Engine;
 use reference::record::Record;
 
-use super::{Answer, Answers, Lent, ENTRIES};
+use super::{Answer, Lent, ENTRIES};
+use crate::lent::Answers;
 use crate::random::Random;
 use crate::record_tests::order::example_records;
 
@@ -24,7 +25,7 @@ fn lengths(reference: &Engine) -> bool {
 }
 
 /// 2,999 lux: 4 × A0 is the first reading at Rd 500, and F(M) is T(1023) at Rd 1,000.
-fn job(reflectance: u64) -> Record {
+pub fn job(reflectance: u64) -> Record {
     Record {
         settings: vec![8, 0, 1, reflectance, 0],
         lamps: vec![1_997, 3, 999],

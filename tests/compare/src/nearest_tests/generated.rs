@@ -8,14 +8,12 @@ use reference::nearest::Table;
 use reference::record;
 use reference::target::Range;
 
-use super::{Answer, Answers, Lent};
+use super::{Answer, Lent};
 use crate::jobs::{self, SHAPES};
+use crate::lent::Answers;
 use crate::random::Random;
 use crate::tally::Tally;
 
-/// How many jobs the gate runs.
-pub const JOBS: u64 = 20_000;
-pub const SEED: u64 = 14;
 /// How often each thing has to be seen at least, where there are as many jobs as the gate's or more.
 const LEAST: u64 = 50;
 const LENGTHS: [usize; 6] = [0, 255, 256, 257, 1_000, 65_536];
@@ -142,11 +140,11 @@ fn length(random: &mut Random) -> usize {
 }
 
 pub fn results(reference: &Engine, count: u64, seed: u64) -> Vec<bool> {
-    let mut random = Random::new(seed);
+    let [mut drawn, mut random] = jobs::generators(seed);
     let mut all = Answers::new("nearest: generated jobs");
     let mut seen = Seen::new();
     for _ in 0..count {
-        let job = jobs::draw(&mut random, &reference.gsdf);
+        let job = jobs::draw(&mut drawn, &reference.gsdf);
         let length = length(&mut random);
         let lent = Lent::new(&mut random, &job.bytes, LENGTHS[length]);
         seen.lengths.add(length);
@@ -170,6 +168,6 @@ pub fn results(reference: &Engine, count: u64, seed: u64) -> Vec<bool> {
         all.count(&lent, Answer::of_engine(&lent).difference(&expected));
     }
     let mut results = vec![all.ended(count)];
-    results.extend(seen.ended(if JOBS <= count { LEAST } else { 0 }));
+    results.extend(seen.ended(if jobs::COUNT <= count { LEAST } else { 0 }));
     results
 }

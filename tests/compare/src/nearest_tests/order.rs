@@ -2,8 +2,9 @@
 use reference::engine::Engine;
 use reference::record::Record;
 
-use super::{Answer, Answers, Lent};
+use super::{Answer, Lent};
 use crate::jobs::damage::{count_places, set_count};
+use crate::lent::Answers;
 use crate::random::Random;
 
 /// The first and the last reading, and the lowest of 8, 9 and 10 that they meet; 0 for none.
@@ -18,6 +19,7 @@ const ENDS: [(u64, u64, u32); 8] = [
     (10_000, 20_000, 10),
 ];
 
+/// A record with these ends and faults, and the lowest number that it meets; 0 for none.
 fn record((first, last, number): (u64, u64, u32), faults: [bool; 3]) -> (Record, u32) {
     let [setting, ddl, luminance] = faults;
     let mut lowest = number;
@@ -43,8 +45,14 @@ fn record((first, last, number): (u64, u64, u32), faults: [bool; 3]) -> (Record,
     (record, lowest)
 }
 
+/// Every choice of ends and faults.
+pub fn records() -> Vec<(Record, u32)> {
+    let faults = (0..8).map(|choice| [choice & 1 != 0, choice & 2 != 0, choice & 4 != 0]);
+    ENDS.into_iter().flat_map(|ends| faults.clone().map(move |faults| record(ends, faults))).collect()
+}
+
 /// The record as it is, with a byte more, cut at its end, with a count not permitted, that and cut at its end, and cut inside that count.
-fn written(record: &Record, lowest: u32) -> [(Vec<u8>, u32); 6] {
+pub fn written(record: &Record, lowest: u32) -> [(Vec<u8>, u32); 6] {
     let bytes = record.bytes();
     let sweep = count_places(record)[2];
     let mut miscounted = bytes.clone();
@@ -63,9 +71,7 @@ fn written(record: &Record, lowest: u32) -> [(Vec<u8>, u32); 6] {
 pub fn lowest_number(reference: &Engine) -> bool {
     let mut random = Random::new(2);
     let mut all = Answers::new("nearest: order of refusals");
-    let faults = (0..8).map(|choice| [choice & 1 != 0, choice & 2 != 0, choice & 4 != 0]);
-    for (ends, faults) in ENDS.into_iter().flat_map(|ends| faults.clone().map(move |faults| (ends, faults))) {
-        let (record, lowest) = record(ends, faults);
+    for (record, lowest) in records() {
         for (bytes, number) in written(&record, lowest) {
             for (entries, number) in [(0, 1), (255, 1), (256, number), (1_000, number)] {
                 let lent = Lent::new(&mut random, &bytes, entries);

@@ -191,6 +191,12 @@ fn compare(reference: &Engine, name: &'static str, examples: Vec<Example>, expec
     all.ended(expected)
 }
 
+/// The records of all examples.
+pub fn records() -> Vec<Vec<u8>> {
+    let groups = [refusal_table(), marked_examples(), ends_of_table(), large_sums(), least_range(), room_marks(), large_room_marks()];
+    groups.into_iter().flatten().map(|(_, bytes, _, _)| bytes).collect()
+}
+
 pub fn results(reference: &Engine) -> Vec<bool> {
     vec![
         compare(reference, "nearest: refusal table", refusal_table(), 2 * 16 + 14),

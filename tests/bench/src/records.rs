@@ -1,0 +1,40 @@
+//! The records of the cases.
+use reference::gsdf::Gsdf;
+use reference::record::Record;
+use reference::target::Range;
+
+/// Records of depth 10 with 8 lamps and a check: two readings, 64 and 1,024. Then the jobs, then those with a check.
+pub fn records() -> Vec<Vec<u8>> {
+    let record = |readings: u64| Record {
+        settings: vec![10, 0, 1, 60, 100],
+        lamps: (0..8).map(|i| 100 + i).collect(),
+        ddls: (0..readings).map(|i| 1023 * i / (readings - 1)).collect(),
+        luminances: (0..readings).map(|i| 1_000 + 3_000 * i).collect(),
+        check: (0..18).map(|i| 10_000 + 1_000 * i).collect(),
+    };
+    [2, 64, 1024].map(record).iter().chain(&jobs()).chain(&checks()).map(Record::bytes).collect()
+}
+
+/// A sound job of a primary display; the readings rise with the square of the level.
+fn job(depth: u64, lamps: &[u64], readings: u64, check: &[u64]) -> Record {
+    let ddls: Vec<u64> = (0..readings).map(|i| ((1 << depth) - 1) * i / (readings - 1)).collect();
+    let luminances = ddls.iter().map(|ddl| 5_000 + 3_500_000 * ddl * ddl / (1 << (2 * depth))).collect();
+    Record { settings: vec![depth, 0, 1, 60, 100], lamps: lamps.to_vec(), ddls, luminances, check: check.to_vec() }
+}
+
+/// Two readings at depth 8, 64 with lamps at depth 10, 1,024 with a check.
+fn jobs() -> [Record; 3] {
+    [job(8, &[], 2, &[]), job(10, &[10, 20, 30, 40, 50, 60, 70, 80], 64, &[]), job(10, &[], 1024, &[5_000; 18])]
+}
+
+/// 1,024 readings and 52 with a check that passes, its patches 1 % brighter and darker than expected in turn, and 1,024 with one that fails, by 5 %.
+fn checks() -> [Record; 3] {
+    let gsdf = Gsdf::from_data_file();
+    let room_light = 60 * (10 + 20);
+    let expected = Range::between(&gsdf, 6_800, 3_490_000).targets(&gsdf, 17);
+    let off_by = |percent: u64| -> Vec<u64> {
+        let patches = (0..).zip(&expected).map(|(i, v)| if i % 2 == 0 { v + v * percent / 100 } else { v - v * percent / 100 });
+        patches.map(|patch| patch - room_light).collect()
+    };
+    [job(10, &[10, 20], 1024, &off_by(1)), job(10, &[10, 20], 52, &off_by(1)), job(10, &[10, 20], 1024, &off_by(5))]
+}

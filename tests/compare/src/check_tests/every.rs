@@ -1,0 +1,123 @@
+//! Every length of the lent slice, every patch at the ends of the table and beyond, and every reflectance.
+use reference::contrast::STEPS;
+use reference::engine::Engine;
+use reference::record::Record;
+
+use super::{expected, job, without, Answer, Lent, FAIL, PASS};
+use crate::lent::Answers;
+use crate::random::Random;
+use crate::record_tests::order::example_records;
+
+/// The examples of the refusal table, a check that passes and one that does not, each with slices around the least length and longer ones.
+fn lengths(reference: &Engine) -> bool {
+    let mut random = Random::new(8);
+    let mut all = Answers::new("check: every length");
+    let mut records: Vec<(u32, u32, Vec<u8>)> = vec![];
+    for (name, bytes) in example_records() {
+        let number = name.parse().ok().filter(|&number| number != 11).unwrap_or(0);
+        records.push((number, 0, bytes));
+    }
+    let fit = expected(&reference.gsdf, 20_000, 80_000);
+    let mut unfit = fit.clone();
+    unfit[9] = fit[8];
+    records.push((0, PASS, job(0, 1, &[], fit).bytes()));
+    records.push((0, FAIL, job(1, 2, &[7], unfit).bytes()));
+    for (number, verdict, bytes) in records {
+        for places in (0..=40).chain([255, 256, 257, 65_535, 65_536, 70_000]) {
+            let (number, verdict) = if places < STEPS { (1, 0) } else { (number, verdict) };
+            let lent = Lent::new(&mut random, &bytes, places);
+            let expected = Answer::of_reference(reference, &lent);
+            let agrees = expected.result.refusal == number && expected.result.verdict == verdict;
+            let stated = (!agrees).then(|| format!("should be {number}, verdict {verdict}"));
+            all.count(&lent, Answer::of_engine(&lent).difference(&expected).or(stated));
+        }
+    }
+    all.ended(15 * 47)
+}
+
+/// The luminance at one patch of a check that passes, and what it makes of the check, 0 for a result.
+fn number_at(place: usize, luminance: u64) -> u32 {
+    match luminance {
+        500 if place == STEPS => 13,
+        39_934_040 if place == 0 => 13,
+        500 | 39_934_040 => 0,
+        _ => 12,
+    }
+}
+
+/// Each patch at T(1), at T(1023), a unit beyond and as far as a reading goes; in a dark room, a lit one, and the brightest.
+fn patches(reference: &Engine) -> bool {
+    let mut random = Random::new(9);
+    let mut all = Answers::new("check: every patch");
+    let rooms: [(u64, &[u64], u64); 4] = [(0, &[], 0), (0, &[150, 250], 400), (1, &[150, 250], 0), (1, &[2_000; 8], 0)];
+    for (meter, lamps, added) in rooms {
+        let fit = expected(&reference.gsdf, 20_000, 80_000);
+        for place in 0..=STEPS {
+            for luminance in [added, 499, 500, 39_934_040, 39_934_041, 4_294_967_295 + added] {
+                for class in [1, 2] {
+                    let mut luminances = fit.clone();
+                    luminances[place] = luminance;
+                    let record = job(meter, class, lamps, without(added, &luminances));
+                    one(&mut all, &mut random, reference, &record, number_at(place, luminance));
+                }
+            }
+        }
+    }
+    // A is 16,000,000, so that the sums of the second and the third are 2^32 and 2^32 + 500.
+    let fit = expected(&reference.gsdf, reference.gsdf.index(16_100_000), 102_300);
+    for place in 0..=STEPS {
+        for (reading, number) in [(23_934_041, 12), (4_278_967_296, 12), (4_278_967_796, 12), (4_294_967_295, 12)] {
+            let mut record = bright(without(16_000_000, &fit));
+            record.check[place] = reading;
+            one(&mut all, &mut random, reference, &record, number);
+        }
+        let mut record = bright(without(16_000_000, &fit));
+        record.check[place] = 0;
+        one(&mut all, &mut random, reference, &record, if place == STEPS { 13 } else { 0 });
+    }
+    all.ended(4 * 18 * 6 * 2 + 18 * 5)
+}
+
+/// A sound job in the brightest room.
+fn bright(check: Vec<u64>) -> Record {
+    Record { settings: vec![8, 0, 1, 1_000, 0], lamps: vec![2_000; 8], ddls: vec![0, 255], luminances: vec![0, 23_934_040], check }
+}
+
+fn one(all: &mut Answers, random: &mut Random, reference: &Engine, record: &Record, number: u32) {
+    let lent = Lent::new(random, &record.bytes(), 18);
+    let expected = Answer::of_reference(reference, &lent);
+    let stated = (expected.result.refusal != number).then(|| format!("should be {number}"));
+    all.count(&lent, Answer::of_engine(&lent).difference(&expected).or(stated));
+}
+
+/// Every Rd and both meters: the same readings, to which each Rd adds another room light, or none.
+fn reflectances(reference: &Engine) -> bool {
+    let mut random = Random::new(10);
+    let mut all = Answers::new("check: every reflectance");
+    let readings = expected(&reference.gsdf, 15_000, 95_000);
+    let mut before = vec![];
+    for reflectance in 0..=1_000 {
+        for meter in [0, 1] {
+            let mut record = job(meter, 2, &[1_997, 3, 999], readings.clone());
+            record.settings[3] = reflectance;
+            record.luminances[1] = 36_935_040;
+            let lent = Lent::new(&mut random, &record.bytes(), STEPS);
+            let mut expected = Answer::of_reference(reference, &lent);
+            let deviations = expected.lent.slice().to_vec();
+            let agrees = match meter {
+                0 => expected.result.verdict != 0 && deviations != before,
+                _ => expected.result.verdict == PASS && deviations.iter().all(|&deviation| deviation == 0),
+            };
+            let stated = (!agrees).then(|| format!("not as it should be with Rd {reflectance}"));
+            all.count(&lent, Answer::of_engine(&lent).difference(&expected).or(stated));
+            if meter == 0 {
+                before = deviations;
+            }
+        }
+    }
+    all.ended(2 * 1_001)
+}
+
+pub fn results(reference: &Engine) -> Vec<bool> {
+    vec![lengths(reference), patches(reference), reflectances(reference)]
+}

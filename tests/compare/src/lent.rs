@@ -1,0 +1,100 @@
+//! What is lent to an operation, and comparisons of its answers.
+use crate::comparison::{field, start, Comparison};
+use crate::random::Random;
+
+/// Entries before and after a lent slice, which nobody may touch.
+const AROUND: usize = 40;
+
+/// An element of a lent slice.
+pub trait Entry: Copy + PartialEq + Into<i128> {
+    fn any(random: &mut Random) -> Self;
+}
+
+impl Entry for u16 {
+    fn any(random: &mut Random) -> u16 {
+        random.below(1 << 16) as u16
+    }
+}
+
+impl Entry for i32 {
+    fn any(random: &mut Random) -> i32 {
+        random.below(1 << 32) as i32
+    }
+}
+
+/// A record and a slice to lend. The record ends where its memory ends; the slice is filled with noise, and has entries around it.
+#[derive(Clone)]
+pub struct Lent<T> {
+    /// One byte, so that the record stands at an odd address, and the record.
+    pub bytes: Vec<u8>,
+    pub memory: Vec<T>,
+    /// The place of the first entry lent: even, or odd, where its address is no multiple of two entries' size.
+    pub first: usize,
+}
+
+impl<T: Entry> Lent<T> {
+    pub fn new(random: &mut Random, record: &[u8], entries: usize) -> Lent<T> {
+        let first = AROUND + random.place(2);
+        let memory = (0..first + entries + AROUND).map(|_| T::any(random)).collect();
+        Lent { bytes: [&[255][..], record].concat(), memory, first }
+    }
+
+    pub fn record(&self) -> &[u8] {
+        &self.bytes[1..]
+    }
+
+    pub fn entries(&self) -> usize {
+        self.memory.len() - self.first - AROUND
+    }
+
+    pub fn slice(&mut self) -> &mut [T] {
+        self.parts().1
+    }
+
+    /// The record and the slice, for a call. An allocation begins at a multiple of two entries' size, which is tested here.
+    pub fn parts(&mut self) -> (&mut [u8], &mut [T]) {
+        let size = std::mem::size_of::<T>();
+        let end = self.memory.len() - AROUND;
+        let slice = &mut self.memory[self.first..end];
+        assert_eq!(self.bytes.capacity(), self.bytes.len());
+        assert_eq!(self.bytes[1..].as_ptr() as usize % 2, 1);
+        assert_eq!(slice.as_ptr() as usize % (2 * size), size * (self.first % 2));
+        (&mut self.bytes[1..], slice)
+    }
+
+    /// The first place where this is not as expected.
+    pub fn difference(&self, expected: &Lent<T>) -> Option<String> {
+        let name = format!("entries, the first lent at place {}", self.first);
+        memory(&name, &self.memory, &expected.memory).or_else(|| memory("record, its first byte at place 1", &self.bytes, &expected.bytes))
+    }
+}
+
+/// The first place where two memories differ; many entries are compared, so at once.
+fn memory<T: Copy + PartialEq + Into<i128>>(name: &str, got: &[T], expected: &[T]) -> Option<String> {
+    if got == expected {
+        return None;
+    }
+    field(name, got, expected)
+}
+
+/// Comparisons of answers; each input counts as one, with its whole answer.
+pub struct Answers(Comparison);
+
+impl Answers {
+    pub fn new(name: &'static str) -> Answers {
+        Answers(Comparison::new(name))
+    }
+
+    pub fn count<T: Entry>(&mut self, lent: &Lent<T>, difference: Option<String>) {
+        let input = self.0.seen();
+        let bytes = lent.record();
+        let about = |difference| {
+            format!("input {input} ({} bytes, {} entries lent, {:?}): {difference}", bytes.len(), lent.entries(), start(bytes))
+        };
+        self.0.count(difference.map(about));
+    }
+
+    pub fn ended(self, expected: u64) -> bool {
+        self.0.ended(expected)
+    }
+}
