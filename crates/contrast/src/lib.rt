@@ -1,16 +1,12 @@
 // The contrast check: how far the contrast of neighbouring patches deviates from the display function, and the verdict on it.
 ghost use mathlib.Core.Path.{_≡_};
-ghost use mathlib.Core.Bool.{Bool};
-ghost use mathlib.Core.List.{_++_};
 ghost use Prim.Native.Nat.{_+_, _<_, _≤_};
 ghost use lib.IntN.{natAbs};
-ghost use lib.ListN.{length, drop};
-ghost use Rattle.laws.specs.Search.{all};
-ghost use Rattle.laws.specs.Fill.{tab};
+ghost use lib.ListN.{length};
 ghost use Rattle.gsdf.specs.Table.{tableB1};
 ghost use Rattle.gsdf.specs.DisplayFunction.{InTable};
 ghost use Rattle.contrast.specs.Deviation.{floorOf, expectedContrast, excess, deviationOf, keepsLimit};
-ghost use Rattle.contrast.specs.Check.{shown, someOutside, expectedLuminance, atPatch, Checkable, Checked, Spans, Filled, Step};
+ghost use Rattle.contrast.specs.Check.{shown, someOutside, expectedLuminance, Checkable, Checked, Spans, Filled, Step};
 use units::JndIndex;
 use units::JndRange;
 use units::Luminance;

@@ -1,6 +1,6 @@
 -- The contrast check of a record: each way that the operation ends.
 -- Assumes nothing.
-use mathlib.Core.Path.{_≡_, refl, sym, ap, _∙_}
+use mathlib.Core.Path.{_≡_, refl, _∙_}
 use mathlib.Core.List.{List}
 use mathlib.Core.Logic.{inl, inr, ⊎-elim}
 use Prim.Native.Nat.{ℕ, _≤_, _<_}
@@ -16,7 +16,7 @@ use Rattle.record.specs.declared.Refusal.the-variants.{LentTooShort}
 use Rattle.record.specs.declared.Job.{Job}
 use Rattle.record.specs.declared.JobRecord.{JobRecord}
 use Rattle.record.specs.declared.Answer.the-variants.{Accepted}
-use Rattle.engine.specs.Sound.{SoundJob, Soundness, sound, unsound, soundness, addedOf}
+use Rattle.engine.specs.Sound.{Soundness, unsound, soundness, addedOf}
 use Rattle.engine.specs.Preparing.{sweepTests}
 use Rattle.engine.specs.Check.{checkAfter, checkAnswer, placesOver, checkLent, CheckPromise}
 use Rattle.engine.specs.Checking.{CheckFront, jobAnswer, jobPlaces, JobChecked}

@@ -1,32 +1,28 @@
 -- What follows from the promise of the contrast check.
 -- Assumes nothing.
-use mathlib.Core.Path.{_≡_, refl, sym, ap, subst, _∙_}
+use mathlib.Core.Path.{_≡_, refl, sym, ap, _∙_}
 use mathlib.Core.Bool.{true, false}
 use mathlib.Core.List.{List, _++_}
-use mathlib.Core.Logic.{⊎-elim}
 use Prim.Native.Nat.{ℕ, _+_, _-_, _≤_, _<_}
 use native.Mathlib.Omega.{arith}
-use lib.IntN.{ℤ, pos, sucℤ, _*ℤ_}
+use lib.IntN.{ℤ, pos, _*ℤ_}
 use lib.ListN.{length, getD, drop, length-append, length-drop, List·getD-append}
 use lib.Seq.{getD-append-add, getD-drop}
-use lib.Signed.{_≤ℤ_, _<ℤ_}
+use lib.Signed.{_≤ℤ_}
 use mir.Facts.{clash}
 use borrow.Author.Tests.{le-leb, lt-leb, le-ltb, lt-ltb}
 use Rattle.laws.specs.Search.{all}
-use Rattle.laws.proofs.Cases.{by, is-yes, is-no, yes-is, le-or-lt}
+use Rattle.laws.proofs.Cases.{by, yes-is}
 use Rattle.laws.proofs.Search.{all-of, all-intro}
-use Rattle.gsdf.specs.DisplayFunction.{indexOf}
-use Rattle.record.specs.Sections.{sections, checkIn}
 use Rattle.record.specs.declared.Refusal.{Refusal}
 use Rattle.record.specs.declared.Job.{Job}
-use Rattle.contrast.specs.Deviation.{floorOf, expectedContrast, excess, deviationOf, keepsLimit}
+use Rattle.contrast.specs.Deviation.{floorOf, excess, deviationOf, keepsLimit}
 use Rattle.contrast.specs.Check.{someOutside, checkRange, checkTooNarrow, atPatch, expected, deviationsOf, verdictOf, contrastOf, deviationsOver, Step}
 use Rattle.contrast.specs.declared.Verdict.{Verdict}
 use Rattle.contrast.specs.declared.Verdict.the-variants as verdict
 use Rattle.contrast.proofs.Floor.{floor-le, floor-lt}
 use Rattle.contrast.proofs.Bounds.{expected-pos}
 use Rattle.contrast.proofs.Laws.{spans, step-at, deviations-length, deviations-at}
-use Rattle.engine.specs.Conditions.{GoesOn}
 use Rattle.engine.specs.Check.{limitParts, contrastAnswer, checkOf, checkAnswer, placesOf, checkLent, CheckValues, not-measured, pass, fail, number, checkValues, v, off, Y, Checks, Inside, CheckOutcome, short, back, unmeasured, outside, narrow, passes, fails, CheckPromise}
 use Rattle.engine.specs.CheckFacts.{MadeCheck, CheckSettled}
 use Rattle.engine.specs.declared.CheckAnswer.the-variants.{Made, NotMeasured, Refused}
@@ -41,8 +37,8 @@ module _ {bytes : List ℕ} {before : List ℤ} {job : Job} (c : Checks bytes be
       → after ≡ deviationsOver (v bytes job) before → CheckSettled bytes before after x
   unfolding checkAnswer checkLent madeBy checkOf placesOf
   settled ex ea = record {
-    places = simp (le-ltb _ _ (c .long), went-on (c .goes-on)) (rw (c .patches) ea);
-    values-are = simp (le-ltb _ _ (c .long), went-on (c .goes-on)) (rw (c .patches) ex);
+    places = simp (le-ltb _ _ (c .long), went-on (c .goes-on)) (rw (c .readings) ea);
+    values-are = simp (le-ltb _ _ (c .long), went-on (c .goes-on)) (rw (c .readings) ex);
   }
 
 module _ {bytes : List ℕ} {before : List ℤ} {job : Job} (w : Inside bytes before job) where

@@ -1,27 +1,26 @@
 -- The contrast check in document 01's numbers and conditions.
 -- Assumes nothing.
-use mathlib.Core.Path.{_≡_, refl, ap, sym, _∙_}
-use mathlib.Core.Bool.{Bool, true, false, _||_}
+use mathlib.Core.Path.{_≡_}
+use mathlib.Core.Bool.{true, false, _||_}
 use mathlib.Core.List.{List, _++_}
 use mathlib.Core.Logic.{_⊎_, inl, inr, ⊎-elim}
 use Prim.Native.Nat.{ℕ, _≤_, _<_}
-use lib.Dec.{eqb, le→leb}
-use lib.IntN.{ℤ, pos, negsuc}
+use lib.Dec.{eqb}
+use lib.IntN.{ℤ, pos}
 use lib.ListN.{length, drop}
-use lib.Signed.{ltZ, _≤ℤ_}
-use mir.Facts.{or-yes, or-no, eqb-yes}
-use borrow.Author.Tests.{ltb-true, ltb-false, leb-true, leb-false, le-ltb, lt-ltb}
+use lib.Signed.{_≤ℤ_}
+use mir.Facts.{or-yes, eqb-yes}
+use borrow.Author.Tests.{leb-true, leb-false, le-ltb, lt-ltb}
 use Rattle.laws.specs.Search.{all}
-use Rattle.laws.proofs.Cases.{by, is-yes, is-no, yes-is, no-is, le-or-lt}
+use Rattle.laws.proofs.Cases.{by, yes-is, le-or-lt}
 use Rattle.laws.proofs.Search.{none-of, some-of, all-of, not-all}
-use Rattle.gsdf.specs.DisplayFunction.{jndLuminance}
 use Rattle.gsdf.specs.Ends.{belowTable, aboveTable}
 use Rattle.record.specs.Sections.{sections, checkIn}
 use Rattle.record.specs.declared.Job.{Job}
 use Rattle.record.proofs.Accepted.{accepted-job}
 use Rattle.contrast.specs.Deviation.{keepsLimit}
 use Rattle.contrast.specs.Check.{someOutside, checkRange, checkTooNarrow, atPatch, deviationsOf, verdictOf, contrastOf, deviationsOver}
-use Rattle.engine.specs.Sound.{Soundness, soundness}
+use Rattle.engine.specs.Sound.{Soundness}
 use Rattle.engine.specs.Conditions.{GoesOn}
 use Rattle.engine.specs.Check.{limitParts, checkOf, checkAfter, checkAnswer, placesOf, placesOver, checkLent, number, pass, fail, checkValues, v, Checks, Inside, CheckOutcome, short, back, unmeasured, outside, narrow, passes, fails, CheckPromise}
 use Rattle.engine.specs.declared.CheckAnswer.{CheckAnswer}
@@ -41,7 +40,7 @@ module _ (bytes : List ℕ) (before : List ℤ) (long : 17 ≤ length before) (j
 
   module _ (n : length (checkIn (sections bytes)) ≡ 18) where
     checks : Checks bytes before job
-    checks = record { long = long; goes-on = g; patches = n }
+    checks = record { long = long; goes-on = g; readings = n }
 
     inside : someOutside (v bytes job) ≡ false → Inside bytes before job
     unfolding someOutside

@@ -4,7 +4,7 @@ use mathlib.Core.Path.{_≡_, sym}
 use mathlib.Core.Bool.{true, false, _||_}
 use mathlib.Core.Logic.{_⊎_, inl, inr, ⊎-elim}
 use Prim.Native.Nat.{ℕ, _≤_, _<_}
-use lib.Dec.{T, le→leb, leb→le}
+use lib.Dec.{le→leb, leb→le}
 use lib.IntN.{ℤ, pos, negsuc}
 use lib.Signed.{ltZ, _≤ℤ_, _<ℤ_}
 use mir.Facts.{or-yes, or-no, clash}

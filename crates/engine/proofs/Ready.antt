@@ -12,6 +12,7 @@ use Rattle.engine.specs.Preparing.{Prepares}
 use Rattle.engine.specs.declared.Frame.{Frame}
 use Rattle.engine.specs.declared.Prepared.{Prepared}
 use Rattle.engine.specs.declared.Prepared.the-variants.{Ready, SentBack}
+use Rattle.engine.proofs.Clashes.{ready-back}
 use Rattle.engine.proofs.Soundness.{sound-job}
 
 -- the job is sound, its curve is at the front of one array, and its targets fill the other
@@ -25,15 +26,12 @@ pub record Readied (x : Soundness) (f : Frame) (curve targets : List ℕ) : Type
   pub levels : take (f .levels) curve ≡ job .curve
   pub values : targets ≡ job .targets
 
-ready-faulted : {f : Frame} {r : Refusal} → Ready f ≡ SentBack r → ⊥
-ready-faulted e = let z : _≡_ {A = ℕ} 0 1 = cc in omega arith
-
 pub readied : (bytes : List ℕ) (r : Prepared) (f : Frame) (curve₀ curve₁ targets₀ targets₁ : List ℕ) → length targets₀ ≡ 256
     → Prepares (soundness bytes) r curve₀ curve₁ targets₀ targets₁ → r ≡ Ready f → Readied (soundness bytes) f curve₁ targets₁
 readied bytes r f curve₀ curve₁ targets₀ targets₁ n h q = go (soundness bytes) refl (rw q at h)
   where
     go : (x : Soundness) → soundness bytes ≡ x → Prepares x (Ready f) curve₀ curve₁ targets₀ targets₁ → Readied (soundness bytes) f curve₁ targets₁
-    go (unsound r) e p = absurd (ready-faulted (p .answers))
+    go (unsound r) e p = absurd (ready-back (p .answers))
     go (sound job) e p =
         let known : IsSound job = sound-job bytes job e in
         let same : f ≡ record { levels = length (job .curve); indices = job .indices; mark = job .mark } = let a = p .answers in cc in
@@ -52,5 +50,5 @@ readied bytes r f curve₀ curve₁ targets₀ targets₁ n h q = go (soundness 
 -- a job that is sent back
 pub sent-back : (x : Soundness) (r : Prepared) (f : Refusal) (curve₀ curve₁ targets₀ targets₁ : List ℕ)
     → Prepares x r curve₀ curve₁ targets₀ targets₁ → r ≡ SentBack f → x ≡ unsound f
-sent-back (sound job) r f curve₀ curve₁ targets₀ targets₁ h q = absurd (ready-faulted (sym (h .answers) ∙ q))
+sent-back (sound job) r f curve₀ curve₁ targets₀ targets₁ h q = absurd (ready-back (sym (h .answers) ∙ q))
 sent-back (unsound g) r f curve₀ curve₁ targets₀ targets₁ h q = let a : SentBack g ≡ SentBack f = sym (h .answers) ∙ q in cc

@@ -1,5 +1,5 @@
 -- The contrast check of a job record.
-use Prim.Native.Nat.{ℕ, _+_, _*_, _≤_, _<_}
+use Prim.Native.Nat.{ℕ, _*_, _≤_, _<_}
 use mathlib.Core.Path.{_≡_}
 use mathlib.Core.List.{List, _++_}
 use mathlib.Core.Bool.{cond}
@@ -17,7 +17,6 @@ use Rattle.record.specs.declared.Class.{Class}
 use Rattle.record.specs.declared.Class.the-variants.{Primary, Secondary}
 use Rattle.contrast.specs.Deviation.{expectedContrast, excess}
 use Rattle.contrast.specs.Check.{shown, checkRange, atPatch, deviationsOf, contrastOf, deviationsOver}
-use Rattle.contrast.specs.declared.Verdict.{Verdict}
 use Rattle.contrast.specs.declared.Verdict.the-variants as verdict
 use Rattle.contrast.specs.declared.Contrast.{Contrast}
 use Rattle.contrast.specs.declared.Contrast.the-variants.{Judged, OutsideTable, CheckTooNarrow}
@@ -96,7 +95,7 @@ Y bytes job i = atPatch expectedContrast (v bytes job) i
 pub record Checks (bytes : List ℕ) (before : List ℤ) (job : Job) : Type 0 where
   pub long : 17 ≤ length before
   pub goes-on : GoesOn bytes job
-  pub patches : length (checkIn (sections bytes)) ≡ 18
+  pub readings : length (checkIn (sections bytes)) ≡ 18
 
 -- and none of them meets 12
 pub record Inside (bytes : List ℕ) (before : List ℤ) (job : Job) : Type 0 where

@@ -6,8 +6,6 @@ use mathlib.Core.Logic.{_⊎_}
 use lib.IntN.{ℤ, pos, sucℤ, _*ℤ_}
 use lib.ListN.{length, getD}
 use lib.Signed.{_≤ℤ_, _<ℤ_}
-use Rattle.record.specs.Refusals.{refusalNumber}
-use Rattle.record.specs.declared.Refusal.{Refusal}
 use Rattle.record.specs.declared.Job.{Job}
 use Rattle.contrast.specs.Deviation.{excess}
 use Rattle.contrast.specs.Check.{checkRange, atPatch}

@@ -5,7 +5,6 @@ use mathlib.Core.List.{List}
 use mathlib.Core.Logic.{_⊎_}
 use lib.IntN.{ℤ}
 use lib.ListN.{length, take}
-use Rattle.record.specs.declared.Refusal.{Refusal}
 use Rattle.record.specs.declared.Job.{Job}
 use Rattle.engine.specs.Sound.{addedOf}
 use Rattle.engine.specs.Preparing.{sweepTests, Climbs}
