@@ -1,10 +1,25 @@
 /* Yepidlaw: calibrates the screens that radiologists read from, after DICOM PS3.14.
  *
  * Each call takes a job record of any bytes and slices that the caller lends; a slice is a pointer to its first element and the number
- * of its elements; the pointer may be null where that number is 0. Beyond what C asks of pointers (so many elements are there, aligned, and no two
- * slices overlap) nothing is asked of the caller.
+ * of its elements; the pointer may be null where that number is 0. So many elements must be there, aligned, and no two slices of a call may overlap;
+ * nothing else is asked of the caller.
  *
- * Luminances are in units of 0.0001 cd/m², JND indices in hundredths of a JND, deviations of contrast in parts per thousand. */
+ * Luminances are in units of 0.0001 cd/m², JND indices in hundredths of a JND, deviations of contrast in parts per thousand.
+ *
+ * A call that is refused gives the first of these numbers that holds, and changes nothing that was lent:
+ *
+ *    1  too few entries or places are lent
+ *    2  the bytes end before the record does
+ *    3  a section has a number of items that it cannot have
+ *    4  bytes are left over
+ *    5  a setting or a lamp is out of its range
+ *    6  the drive levels do not rise strictly from 0 to 2^b - 1
+ *    7  the luminances of the sweep fall somewhere
+ *    8  the darkest level, with the room light, is below Table B-1
+ *    9  the brightest level is above it
+ *   10  the two are fewer than 100 JND apart
+ *   12  a check reading, with the room light, is outside Table B-1
+ *   13  the first and the last check reading are fewer than 100 JND apart, or fall */
 #ifndef YEPIDLAW_H
 #define YEPIDLAW_H
 
@@ -40,13 +55,14 @@ struct yepidlaw_check {
     uint32_t verdict; /* 0 not measured, the record holds no check readings; 1 pass; 2 fail */
 };
 
-/* The contrast check of a job record: 18 grey patches, and 17 steps from one to the next.
+/* The contrast check of a job record: 18 grey patches, those of P-values 0, 15, 30 and so on to 255, and 17 pairs of neighbours.
  *
  * record, n       the job record and its number of bytes, any bytes
  * deviations, m   the places lent for the deviations and their number; fewer than 17 are refused, with number 1
  *
  * Where refusal is 0 and verdict is not, deviations[i] is how far the contrast between the patches i and i + 1 is from the one expected, i from 0
- * to 16, in parts per thousand of that one: signed, negative where the contrast is too low, rounded toward minus infinity. Places from 17 on are as they were.
+ * to 16, in parts per thousand of that one: signed, negative where it is below the one expected (-1000 where both patches are equal, less where the
+ * next one is darker), rounded toward minus infinity. Places from 17 on are as they were.
  * Else no place was changed. The verdict is that of the deviations before they are rounded: at most 10 % either way for a primary display, 20 % for
  * a secondary one. */
 struct yepidlaw_check yepidlaw_check(const uint8_t *record, size_t n, int32_t *deviations, size_t m);

@@ -1,4 +1,4 @@
--- How large X, Y, X − Y and the deviation of a step are.
+-- How large X, Y, X − Y and the deviation of a pair are.
 -- Assumes nothing.
 use mathlib.Core.Path.{_≡_, ap, _∙_}
 use Prim.Native.Nat.{ℕ, _+_, _-_, _*_, _≤_, _<_}
@@ -10,7 +10,7 @@ use mir.Val.{SFits}
 use Rattle.laws.specs.Numbers.{distance}
 use Rattle.laws.proofs.Signed.{signed-fits, abs-minus, abs-minus-le, abs-times}
 use Rattle.contrast.specs.Deviation.{shownContrast, expectedContrast, excess, deviationOf}
-use Rattle.contrast.specs.Check.{Step}
+use Rattle.contrast.specs.Check.{Pair}
 use Rattle.contrast.proofs.Floor.{floor-fits}
 
 -- a luminance times the sum of two
@@ -25,7 +25,7 @@ shown-is p s c h = abs-times (pos s -ℤ pos p) (pos (h + c)) ∙ ap (λ (n : �
 pub shown-top : (p s c h : ℕ) → p ≤ 39934040 → s ≤ 39934040 → c ≤ 39934040 → h ≤ 39934040 → natAbs (shownContrast p s c h) ≤ 39934040 * 79868080
 shown-top p s c h hp hs hc hh = rw shown-is (product-top (distance s p) (h + c) (omega arith) (omega arith))
 
-module _ {p s c h : ℕ} (st : Step p s c h) where
+module _ {p s c h : ℕ} (st : Pair p s c h) where
   pub expected-top : expectedContrast p s c h ≤ 39934040 * 79868080
   unfolding expectedContrast
   expected-top = product-top (h - c) (s + p) (omega arith) (omega (arith, st .p-in .high, st .s-in .high))
@@ -34,8 +34,8 @@ module _ {p s c h : ℕ} (st : Step p s c h) where
   unfolding expectedContrast
   expected-pos = mul-pos (omega arith) (omega (arith, st .p-in .low))
 
-  step-top : natAbs (shownContrast p s c h) ≤ 39934040 * 79868080
-  step-top = shown-top p s c h (st .p-in .high) (st .s-in .high) (omega arith) (st .h-top)
+  pair-top : natAbs (shownContrast p s c h) ≤ 39934040 * 79868080
+  pair-top = shown-top p s c h (st .p-in .high) (st .s-in .high) (omega arith) (st .h-top)
 
   -- |s − p| × (h + c) ≤ (s + p) × (289,378 × (h − c)), for h + c is at most 79,868,080 and h − c at least 276
   shown-by-expected : natAbs (shownContrast p s c h) ≤ 289378 * expectedContrast p s c h
@@ -52,7 +52,7 @@ module _ {p s c h : ℕ} (st : Step p s c h) where
 
   pub excess-top : natAbs (excess p s c h) ≤ 39934040 * 79868080 * 2
   unfolding excess
-  excess-top = omega (arith, abs-minus-le (shownContrast p s c h) (pos (expectedContrast p s c h)), step-top, expected-top)
+  excess-top = omega (arith, abs-minus-le (shownContrast p s c h) (pos (expectedContrast p s c h)), pair-top, expected-top)
 
   -- X − Y and 1,000 times that are numbers of 64 bits, and the deviation is one of 32
   pub excess-fits : SFits w64 (excess p s c h)

@@ -7,20 +7,28 @@ use Prim.Native.Nat.{ℕ, _+_, _-_, _≤_, _<_}
 use native.Mathlib.Omega.{arith}
 use lib.IntN.{ℤ}
 use Rattle.gsdf.specs.DisplayFunction.{indexOf, InTable}
+use Rattle.laws.specs.Search.{all}
+use Rattle.contrast.specs.Deviation.{keepsLimit}
+use Rattle.contrast.specs.declared.Limit.{Limit}
+use Rattle.contrast.specs.declared.Limit.the-variants.{TenPercent, TwentyPercent}
 use Rattle.contrast.specs.declared.Verdict.the-variants.{Pass, Fail}
 use Rattle.contrast.specs.declared.Contrast.the-variants.{Judged, OutsideTable, CheckTooNarrow}
-use Rattle.contrast.specs.Check.{someOutside, checkTooNarrow, verdictOf, contrastOf, deviationsOver, Checked, Spans, Filled}
-use Rattle.contrast.proofs.Laws.{all-inside, is-narrow, is-wide, range-of}
+use Rattle.contrast.specs.Check.{someOutside, checkTooNarrow, atPair, limitParts, verdictOf, contrastOf, deviationsOver, Checked, Covers, InPlace}
+use Rattle.contrast.proofs.Laws.{all-inside, is-narrow, is-wide}
 
 module _ (v : ℕ → ℕ) {outside : Bool} (tested : outside ≡ someOutside v) where
-  pub found-outside : (parts : ℕ) (before : List ℤ) → outside ≡ true → Checked parts v OutsideTable before before
+  pub found-outside : (limit : Limit) (before : List ℤ) → outside ≡ true → Checked limit v OutsideTable before before
   unfolding contrastOf deviationsOver
-  found-outside parts before e =
+  found-outside limit before e =
       let t : someOutside v ≡ true = sym tested ∙ e in
       record { answers = simp t; places = simp t }
 
   pub found-inside : outside ≡ false → (i : ℕ) → i < 18 → InTable (v i)
   found-inside e = all-inside v (sym tested ∙ e)
+
+pub parts-most : {parts : ℕ} (limit : Limit) → parts ≡ limitParts limit → parts ≤ 10
+parts-most TenPercent e = omega arith
+parts-most TwentyPercent e = omega arith
 
 -- test 12 passed, and the indices of the first luminance and of the last
 pub record Ends (v : ℕ → ℕ) (low high : ℕ) : Type 0 where
@@ -37,9 +45,9 @@ ends tested e black-is white-is low-is high-is = record {
 }
 
 module _ {v : ℕ → ℕ} {low high : ℕ} (found : Ends v low high) where
-  pub found-narrow : (parts : ℕ) (before : List ℤ) → high < low + 10000 → Checked parts v CheckTooNarrow before before
+  pub found-narrow : (limit : Limit) (before : List ℤ) → high < low + 10000 → Checked limit v CheckTooNarrow before before
   unfolding contrastOf deviationsOver
-  found-narrow parts before h =
+  found-narrow limit before h =
       let t : checkTooNarrow v ≡ true = is-narrow v (rw (← found .low-is, ← found .high-is) h) in
       record { answers = simp (found .none-outside, t); places = simp (found .none-outside, t) }
 
@@ -47,26 +55,29 @@ module _ {v : ℕ → ℕ} {low high : ℕ} (found : Ends v low high) where
     wide : checkTooNarrow v ≡ false
     wide = is-wide v (rw (← found .low-is, ← found .high-is) h)
 
-    pub found-range : Spans v low (high - low)
+    pub found-range : Covers v low (high - low)
     found-range = record {
       inside = all-inside v (found .none-outside);
       first-is = found .low-is;
-      range-is = omega (arith, range-of v, found .low-is, found .high-is);
+      range-is = omega (arith, found .low-is, found .high-is);
       last-is = omega (arith, found .high-is);
       wide = omega arith;
     }
 
-    module _ {parts : ℕ} {kept : Bool} {before after : List ℤ} (f : Filled parts v kept before after) where
-      pub judged-pass : kept ≡ true → Checked parts v (Judged Pass) before after
+    module _ (limit : Limit) {parts : ℕ} {kept : Bool} {before after : List ℤ} (p : parts ≡ limitParts limit) (f : InPlace parts v kept before after) where
+      judged-all : all (atPair (keepsLimit (limitParts limit)) v) 17 ≡ kept
+      judged-all = rw (← p) (sym (f .verdict))
+
+      pub judged-pass : kept ≡ true → Checked limit v (Judged Pass) before after
       unfolding contrastOf deviationsOver verdictOf
       judged-pass e = record {
-        answers = simp (found .none-outside, wide, sym (f .verdict) ∙ e);
+        answers = simp (found .none-outside, wide, judged-all ∙ e);
         places = simp (found .none-outside, wide) (f .places);
       }
 
-      pub judged-fail : kept ≡ false → Checked parts v (Judged Fail) before after
+      pub judged-fail : kept ≡ false → Checked limit v (Judged Fail) before after
       unfolding contrastOf deviationsOver verdictOf
       judged-fail e = record {
-        answers = simp (found .none-outside, wide, sym (f .verdict) ∙ e);
+        answers = simp (found .none-outside, wide, judged-all ∙ e);
         places = simp (found .none-outside, wide) (f .places);
       }

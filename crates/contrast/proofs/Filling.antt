@@ -17,8 +17,8 @@ use Rattle.laws.proofs.Search.{any-next, all-next}
 use Rattle.laws.proofs.Fill.{length-tab, fill}
 use Rattle.gsdf.specs.Ends.{belowTable, aboveTable}
 use Rattle.contrast.specs.Deviation.{deviationOf, keepsLimit}
-use Rattle.contrast.specs.Check.{shown, someOutside, expectedLuminance, expected, atPatch, deviationsOf, Spans, Filled, Step}
-use Rattle.contrast.proofs.Laws.{expected-is, step-at, deviation-fits}
+use Rattle.contrast.specs.Check.{shown, someOutside, expectedLuminance, expected, atPair, deviationsOf, Covers, InPlace, Pair}
+use Rattle.contrast.proofs.Laws.{expected-is, pair-at, deviation-fits}
 
 -- ---- test 12
 
@@ -45,15 +45,15 @@ testing-all {i = i} t h =
 
 -- ---- the deviations
 
--- the first i deviations are filled, each of those steps is judged, and p and c are the luminances at patch i
+-- the first i deviations are filled, each of those pairs is judged, and p and c are the luminances at patch i
 pub record Filling (parts : ℕ) (v : ℕ → ℕ) (before places : List ℤ) (kept : Bool) (p c i : ℕ) : Type 0 where
   pub inside : i ≤ 17
   pub shown-is : p ≡ v i
   pub expected-is : c ≡ expected v i
-  pub places-are : places ≡ tab (atPatch deviationOf v) i ++ drop i before
-  pub kept-is : kept ≡ all (atPatch (keepsLimit parts) v) i
+  pub places-are : places ≡ tab (atPair deviationOf v) i ++ drop i before
+  pub kept-is : kept ≡ all (atPair (keepsLimit parts) v) i
 
-module _ {v : ℕ → ℕ} {first range : ℕ} (s : Spans v first range) where
+module _ {v : ℕ → ℕ} {first range : ℕ} (s : Covers v first range) where
   pub filling-none : (parts : ℕ) (before : List ℤ) {p c : ℕ} → p ≡ v 0 → c ≡ expectedLuminance first range 0 → Filling parts v before before true p c 0
   unfolding tab all
   filling-none parts before p-is c-is = record {
@@ -68,15 +68,15 @@ module _ {v : ℕ → ℕ} {first range : ℕ} (s : Spans v first range) where
     pub filling-length : 17 ≤ length before → length places ≡ length before
     filling-length l =
         ap length (f .places-are)
-        ∙ length-front before (tab (atPatch deviationOf v) i) i (length-tab (atPatch deviationOf v) i ∙ sym (length-take-le i before (omega (arith, f .inside))))
+        ∙ length-front before (tab (atPair deviationOf v) i) i (length-tab (atPair deviationOf v) i ∙ sym (length-take-le i before (omega (arith, f .inside))))
 
     -- the luminances at the next patch
     module _ (more : i < 17) {n h : ℕ} (n-is : n ≡ v (i + 1)) (h-is : h ≡ expectedLuminance first range (i + 1)) where
-      pub filling-step : Step p n c h
-      filling-step = rw (f .shown-is, n-is, f .expected-is, h-is, expected-is s (i + 1)) (step-at s i more)
+      pub filling-pair : Pair p n c h
+      filling-pair = rw (f .shown-is, n-is, f .expected-is, h-is, expected-is s (i + 1)) (pair-at s i more)
 
-      at-patch {ℓ} : {A : Type ℓ} (g : (p s c h : ℕ) → A) → g p n c h ≡ atPatch g v i
-      unfolding atPatch
+      at-patch {ℓ} : {A : Type ℓ} (g : (p s c h : ℕ) → A) → g p n c h ≡ atPair g v i
+      unfolding atPair
       at-patch g = rw (f .shown-is, n-is, f .expected-is, h-is, expected-is s (i + 1))
 
       pub filling-more : 17 ≤ length before → (d : ℤ) (keeps : Bool) → d ≡ deviationOf p n c h → keeps ≡ keepsLimit parts p n c h
@@ -87,11 +87,11 @@ module _ {v : ℕ → ℕ} {first range : ℕ} (s : Spans v first range) where
         expected-is = h-is ∙ expected-is s (i + 1);
         places-are =
             rw (d-is ∙ at-patch deviationOf, toZ-ofZ w32 _ (deviation-fits s i more), f .places-are)
-            (fill (atPatch deviationOf v) before i (omega arith));
-        kept-is = rw (f .kept-is, k-is ∙ at-patch (keepsLimit parts)) (sym (all-next (atPatch (keepsLimit parts) v) i));
+            (fill (atPair deviationOf v) before i (omega arith));
+        kept-is = rw (f .kept-is, k-is ∙ at-patch (keepsLimit parts)) (sym (all-next (atPair (keepsLimit parts) v) i));
       }
 
-    pub filling-all : 17 ≤ i → Filled parts v kept before places
+    pub filling-all : 17 ≤ i → InPlace parts v kept before places
     unfolding deviationsOf
     filling-all h =
         let e : i ≡ 17 = omega (arith, f .inside) in

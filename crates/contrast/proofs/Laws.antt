@@ -3,26 +3,25 @@
 use mathlib.Core.Path.{_≡_, refl, sym, _∙_}
 use mathlib.Core.Bool.{true, false, _||_}
 use mathlib.Core.Logic.{⊎-elim}
-use Prim.Native.Nat.{ℕ, _+_, _*_, _/_, _≤_, _<_}
+use Prim.Native.Nat.{ℕ, _+_, _-_, _*_, _/_, _≤_, _<_}
 use native.Mathlib.Nat.{mul-le-mul-left}
 use native.Mathlib.Omega.{arith}
-use lib.IntN.{pos, natAbs}
+use lib.IntN.{pos}
 use lib.ListN.{length, getD}
 use mir.Syntax.{w32}
 use mir.Val.{SFits}
 use mir.Facts.{or-no}
-use Rattle.laws.specs.Numbers.{distance}
 use Rattle.laws.proofs.Cases.{is-no, yes-is, no-is, le-or-lt}
 use Rattle.laws.proofs.Numbers.{times-next}
 use Rattle.laws.proofs.Search.{none-of}
 use Rattle.laws.proofs.Fill.{length-tab, getD-tab}
-use Rattle.laws.proofs.Signed.{abs-minus, minus-below, minus-not-below}
+use Rattle.laws.proofs.Signed.{minus-below, minus-not-below}
 use Rattle.gsdf.specs.DisplayFunction.{indexOf, InTable}
 use Rattle.gsdf.specs.Ends.{belowTable, aboveTable}
 use Rattle.gsdf.proofs.Ends.{not-below, not-above}
 use Rattle.gsdf.proofs.Laws.{luminance-far, luminance-mono, luminance-high, index-low, index-high}
 use Rattle.contrast.specs.Deviation.{deviationOf}
-use Rattle.contrast.specs.Check.{someOutside, checkRange, checkTooNarrow, expectedLuminance, expected, atPatch, deviationsOf, Spans, Step}
+use Rattle.contrast.specs.Check.{someOutside, checkRange, checkTooNarrow, expectedLuminance, expected, atPair, deviationsOf, Covers, Pair}
 use Rattle.contrast.proofs.Bounds.{per-mille-fits}
 
 -- ---- tests 12 and 13
@@ -47,18 +46,14 @@ module _ (v : ℕ → ℕ) where
   pub wide-of : checkTooNarrow v ≡ false → indexOf (v 0) + 10000 ≤ indexOf (v 17)
   wide-of e = ⊎-elim (λ h. h) (λ h. absurd (yes-is (sym e ∙ is-narrow h))) (le-or-lt (indexOf (v 0) + 10000) (indexOf (v 17)))
 
-  pub range-of : natAbs (checkRange v) ≡ distance (indexOf (v 17)) (indexOf (v 0))
-  unfolding checkRange
-  range-of = abs-minus (indexOf (v 17)) (indexOf (v 0))
-
--- what passes both spans the range of its ends
-pub spans : (v : ℕ → ℕ) → someOutside v ≡ false → checkTooNarrow v ≡ false → Spans v (indexOf (v 0)) (natAbs (checkRange v))
-spans v e n = record {
+-- what passes both covers the range of its ends
+pub covers : (v : ℕ → ℕ) → someOutside v ≡ false → checkTooNarrow v ≡ false → Covers v (indexOf (v 0)) (indexOf (v 17) - indexOf (v 0))
+covers v e n = record {
   inside = all-inside v e;
   first-is = refl;
   range-is = refl;
-  last-is = omega (arith, range-of v, wide-of v n);
-  wide = omega (arith, range-of v, wide-of v n);
+  last-is = omega (arith, wide-of v n);
+  wide = omega (arith, wide-of v n);
 }
 
 -- ---- the luminances expected in a range of indices
@@ -87,7 +82,7 @@ module _ (first range : ℕ) (low : 100 ≤ first) (high : first + range ≤ 102
 
 -- ---- a check that passes both tests
 
-module _ {v : ℕ → ℕ} {first range : ℕ} (s : Spans v first range) where
+module _ {v : ℕ → ℕ} {first range : ℕ} (s : Covers v first range) where
   pub first-low : 100 ≤ first
   first-low = rw (s .first-is) (index-low (v 0))
 
@@ -105,25 +100,25 @@ module _ {v : ℕ → ℕ} {first range : ℕ} (s : Spans v first range) where
   pub expected-high : (i : ℕ) → i ≤ 17 → expected v i ≤ 39934040
   expected-high i h = rw (← expected-is i) (luminance-top first range first-low last-high i h)
 
-  -- so each step has a deviation, and it is a number of 32 bits
-  pub step-at : (i : ℕ) → i < 17 → Step (v i) (v (i + 1)) (expected v i) (expected v (i + 1))
-  step-at i h = record {
+  -- so each pair has a deviation, and it is a number of 32 bits
+  pub pair-at : (i : ℕ) → i < 17 → Pair (v i) (v (i + 1)) (expected v i) (expected v (i + 1))
+  pair-at i h = record {
     p-in = s .inside i (omega arith);
     s-in = s .inside (i + 1) (omega arith);
     h-top = expected-high (i + 1) (omega arith);
     rise = expected-rises i h;
   }
 
-  pub deviation-fits : (i : ℕ) → i < 17 → SFits w32 (atPatch deviationOf v i)
-  unfolding atPatch
-  deviation-fits i h = per-mille-fits (step-at i h)
+  pub deviation-fits : (i : ℕ) → i < 17 → SFits w32 (atPair deviationOf v i)
+  unfolding atPair
+  deviation-fits i h = per-mille-fits (pair-at i h)
 
 -- ---- the 17 deviations as a list
 
 pub deviations-length : (v : ℕ → ℕ) → length (deviationsOf v) ≡ 17
 unfolding deviationsOf
-deviations-length v = length-tab (atPatch deviationOf v) 17
+deviations-length v = length-tab (atPair deviationOf v) 17
 
-pub deviations-at : (v : ℕ → ℕ) (i : ℕ) → i < 17 → getD (deviationsOf v) i (pos 0) ≡ atPatch deviationOf v i
+pub deviations-at : (v : ℕ → ℕ) (i : ℕ) → i < 17 → getD (deviationsOf v) i (pos 0) ≡ atPair deviationOf v i
 unfolding deviationsOf
-deviations-at v i h = getD-tab (atPatch deviationOf v) 17 i (pos 0) h
+deviations-at v i h = getD-tab (atPair deviationOf v) 17 i (pos 0) h

@@ -26,6 +26,6 @@ excess p s c h = shownContrast p s c h -ℤ pos (expectedContrast p s c h)
 unfoldable pub deviationOf : (p s c h : ℕ) → ℤ
 deviationOf p s c h = floorOf (pos 1000 *ℤ excess p s c h) (expectedContrast p s c h)
 
--- |X − Y| × parts ≤ Y: the excess is at most one part in so many of Y, 10 for primary and 5 for secondary
+-- |X − Y| × parts ≤ Y: X is off Y by at most one part in so many, either way
 unfoldable pub keepsLimit : (parts p s c h : ℕ) → Bool
 keepsLimit parts p s c h = leb (natAbs (excess p s c h) * parts) (expectedContrast p s c h)

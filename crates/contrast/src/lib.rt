@@ -6,7 +6,7 @@ ghost use lib.ListN.{length};
 ghost use Rattle.gsdf.specs.Table.{tableB1};
 ghost use Rattle.gsdf.specs.DisplayFunction.{InTable};
 ghost use Rattle.contrast.specs.Deviation.{floorOf, expectedContrast, excess, deviationOf, keepsLimit};
-ghost use Rattle.contrast.specs.Check.{shown, someOutside, expectedLuminance, Checkable, Checked, Spans, Filled, Step};
+ghost use Rattle.contrast.specs.Check.{shown, someOutside, expectedLuminance, limitParts, Checkable, Checked, Covers, InPlace, Pair};
 use units::JndIndex;
 use units::JndRange;
 use units::Luminance;
@@ -16,10 +16,18 @@ pub enum Verdict {
     Fail,
 }
 
-// What a check finds. Tests 12 and 13 turn it back.
+// How far the contrast of each pair may be off.
+pub enum Limit {
+    TenPercent,
+    TwentyPercent,
+}
+
+// What a check finds.
 pub enum Contrast {
     Judged(Verdict),
+    // Test 12.
     OutsideTable,
+    // Test 13.
     CheckTooNarrow,
 }
 
@@ -38,9 +46,9 @@ fn magnitude(z: i64) -> u64
     if z < 0 { (-1 - z) as u64 + 1 } else { z as u64 }
 }
 
-// Y of one step.
+// Y of one pair.
 fn expected_contrast(p: Luminance, s: Luminance, c: Luminance, h: Luminance) -> u64
-    requires { ⌜ Step (p .0) (s .0) (c .0) (h .0) ⌝ }
+    requires { ⌜ Pair (p .0) (s .0) (c .0) (h .0) ⌝ }
     ensures { λ r. ⌜ r ≡ expectedContrast (p .0) (s .0) (c .0) (h .0) ⌝ }
 {
     let here = p.0;
@@ -52,9 +60,9 @@ fn expected_contrast(p: Luminance, s: Luminance, c: Luminance, h: Luminance) -> 
     rise * sum
 }
 
-// X − Y of one step.
+// X − Y of one pair.
 fn excess_contrast(p: Luminance, s: Luminance, c: Luminance, h: Luminance) -> i64
-    requires { ⌜ Step (p .0) (s .0) (c .0) (h .0) ⌝ }
+    requires { ⌜ Pair (p .0) (s .0) (c .0) (h .0) ⌝ }
     ensures { λ r. ⌜ r ≡ excess (p .0) (s .0) (c .0) (h .0) ⌝ }
 {
     let y = expected_contrast(p, s, c, h);
@@ -66,9 +74,9 @@ fn excess_contrast(p: Luminance, s: Luminance, c: Luminance, h: Luminance) -> i6
     x - y as i64
 }
 
-// The deviation of one step, in parts per thousand.
+// The deviation of one pair, in parts per thousand.
 fn deviation(p: Luminance, s: Luminance, c: Luminance, h: Luminance) -> i32
-    requires { ⌜ Step (p .0) (s .0) (c .0) (h .0) ⌝ }
+    requires { ⌜ Pair (p .0) (s .0) (c .0) (h .0) ⌝ }
     ensures { λ r. ⌜ r ≡ deviationOf (p .0) (s .0) (c .0) (h .0) ⌝ }
 {
     let y = expected_contrast(p, s, c, h);
@@ -76,9 +84,9 @@ fn deviation(p: Luminance, s: Luminance, c: Luminance, h: Luminance) -> i32
     floor_div(1000 * e, y) as i32
 }
 
-// Whether one step keeps the limit, by the exact excess.
+// Whether one pair keeps the limit, by the exact excess.
 fn keeps_limit(p: Luminance, s: Luminance, c: Luminance, h: Luminance, parts: u64) -> bool
-    requires { ⌜ Step (p .0) (s .0) (c .0) (h .0) × (parts ≤ 10) ⌝ }
+    requires { ⌜ Pair (p .0) (s .0) (c .0) (h .0) × (parts ≤ 10) ⌝ }
     ensures { λ r. ⌜ r ≡ keepsLimit parts (p .0) (s .0) (c .0) (h .0) ⌝ }
 {
     let y = expected_contrast(p, s, c, h);
@@ -130,7 +138,7 @@ fn expected_at(b1: &[u32; 1023], first: JndIndex, range: JndRange, i: usize) -> 
     gsdf::luminance_in(b1, JndIndex(index))
 }
 
-// The 17 deviations, into the front of a slice; the answer is whether each step keeps the limit.
+// The 17 deviations, into the front of a slice; the answer is whether each pair keeps the limit.
 fn fill_deviations(
     b1: &[u32; 1023],
     readings: &[u32],
@@ -140,8 +148,8 @@ fn fill_deviations(
     parts: u64,
     deviations: &mut [i32],
 ) -> bool
-    requires { ⌜ Checkable (now b1) (now readings) parts (now deviations) × Spans (shown (added .0) (now readings)) (first .0) (range .0) ⌝ }
-    ensures { λ r. ⌜ Filled parts (shown (added .0) (now (readings .entry))) r (now (deviations .entry)) (now (deviations .exit)) ⌝ }
+    requires { ⌜ Checkable (now b1) (now readings) (now deviations) × (parts ≤ 10) × Covers (shown (added .0) (now readings)) (first .0) (range .0) ⌝ }
+    ensures { λ r. ⌜ InPlace parts (shown (added .0) (now (readings .entry))) r (now (deviations .entry)) (now (deviations .exit)) ⌝ }
 {
     let mut kept = true;
     let mut p = shown_at(readings, added, 0).0;
@@ -168,16 +176,25 @@ fn fill_deviations(
     kept
 }
 
-// The check of 18 readings and the light that is added to each, with Table B-1 lent. `parts` is 10 for a limit of 10 %, 5 for 20 %.
+fn parts_of(limit: Limit) -> u64
+    ensures { λ r. ⌜ r ≡ limitParts limit ⌝ }
+{
+    match limit {
+        Limit::TenPercent => 10,
+        Limit::TwentyPercent => 5,
+    }
+}
+
+// The check of 18 readings and the light that is added to each, with Table B-1 lent.
 pub fn check(
     b1: &[u32; 1023],
     readings: &[u32],
     added: Luminance,
-    parts: u64,
+    limit: Limit,
     deviations: &mut [i32],
 ) -> Contrast
-    requires { ⌜ Checkable (now b1) (now readings) parts (now deviations) ⌝ }
-    ensures { λ r. ⌜ Checked parts (shown (added .0) (now (readings .entry))) r (now (deviations .entry)) (now (deviations .exit)) ⌝ }
+    requires { ⌜ Checkable (now b1) (now readings) (now deviations) ⌝ }
+    ensures { λ r. ⌜ Checked limit (shown (added .0) (now (readings .entry))) r (now (deviations .entry)) (now (deviations .exit)) ⌝ }
 {
     if some_outside(readings, added) {
         return Contrast::OutsideTable;
@@ -192,7 +209,9 @@ pub fn check(
     if high < least {
         return Contrast::CheckTooNarrow;
     }
-    let range = JndRange(high - low);
+    let width = high - low;
+    let range = JndRange(width);
+    let parts = parts_of(limit);
     if fill_deviations(b1, readings, added, first, range, parts, deviations) {
         return Contrast::Judged(Verdict::Pass);
     }

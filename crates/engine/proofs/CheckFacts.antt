@@ -17,23 +17,23 @@ use Rattle.laws.proofs.Search.{all-of, all-intro}
 use Rattle.record.specs.declared.Refusal.{Refusal}
 use Rattle.record.specs.declared.Job.{Job}
 use Rattle.contrast.specs.Deviation.{floorOf, excess, deviationOf, keepsLimit}
-use Rattle.contrast.specs.Check.{someOutside, checkRange, checkTooNarrow, atPatch, expected, deviationsOf, verdictOf, contrastOf, deviationsOver, Step}
+use Rattle.contrast.specs.Check.{someOutside, checkRange, checkTooNarrow, atPair, expected, limitParts, deviationsOf, verdictOf, contrastOf, deviationsOver, Pair}
 use Rattle.contrast.specs.declared.Verdict.{Verdict}
 use Rattle.contrast.specs.declared.Verdict.the-variants as verdict
 use Rattle.contrast.proofs.Floor.{floor-le, floor-lt}
 use Rattle.contrast.proofs.Bounds.{expected-pos}
-use Rattle.contrast.proofs.Laws.{spans, step-at, deviations-length, deviations-at}
-use Rattle.engine.specs.Check.{limitParts, contrastAnswer, checkOf, checkAnswer, placesOf, checkLent, CheckValues, not-measured, pass, fail, number, checkValues, v, off, Y, Checks, Inside, CheckOutcome, short, back, unmeasured, outside, narrow, passes, fails, CheckPromise}
-use Rattle.engine.specs.CheckFacts.{MadeCheck, CheckSettled}
-use Rattle.engine.specs.declared.CheckAnswer.the-variants.{Made, NotMeasured, Refused}
+use Rattle.contrast.proofs.Laws.{covers, pair-at, deviations-length, deviations-at}
+use Rattle.engine.specs.Check.{limitOf, contrastAnswer, checkOf, checkAnswer, placesOf, checkLent, CheckValues, not-measured, pass, fail, number, checkValues, v, scaledExcess, Y, HasReadings, Inside, CheckOutcome, short, back, unmeasured, outside, narrow, passes, fails, CheckPromise}
+use Rattle.engine.specs.CheckFacts.{JudgedCheck, CheckSettled}
+use Rattle.engine.specs.declared.CheckAnswer.the-variants.{Judged, NotMeasured, Refused}
 use Rattle.engine.proofs.Conditions.{madeBy, sent, went-on}
 use Rattle.engine.proofs.CheckTests.{outside-found, none-outside, is-narrow, wide-range}
 use Rattle.engine.proofs.Clashes.{pass-fail}
 
 -- ---- an outcome settles the answer and the places, so no two outcomes of one record and one slice differ
 
-module _ {bytes : List ℕ} {before : List ℤ} {job : Job} (c : Checks bytes before job) where
-  settled : {after : List ℤ} {x : CheckValues} → x ≡ checkValues (contrastAnswer (contrastOf (limitParts (job .settings .class)) (v bytes job)))
+module _ {bytes : List ℕ} {before : List ℤ} {job : Job} (c : HasReadings bytes before job) where
+  settled : {after : List ℤ} {x : CheckValues} → x ≡ checkValues (contrastAnswer (contrastOf (limitOf (job .settings .class)) (v bytes job)))
       → after ≡ deviationsOver (v bytes job) before → CheckSettled bytes before after x
   unfolding checkAnswer checkLent madeBy checkOf placesOf
   settled ex ea = record {
@@ -46,15 +46,15 @@ module _ {bytes : List ℕ} {before : List ℤ} {job : Job} (w : Inside bytes be
   none = none-outside (v bytes job) (w .low) (w .high)
 
   module _ (r : pos 10000 ≤ℤ checkRange (v bytes job)) where
-    all-kept : ((i : ℕ) → i < 17 → off bytes job i ≤ Y bytes job i) → all (atPatch (keepsLimit (limitParts (job .settings .class))) (v bytes job)) 17 ≡ true
-    unfolding atPatch keepsLimit
-    all-kept k = all-intro (atPatch (keepsLimit (limitParts (job .settings .class))) (v bytes job)) 17 (λ i h. le-leb _ _ (k i h))
+    all-kept : ((i : ℕ) → i < 17 → scaledExcess bytes job i ≤ Y bytes job i) → all (atPair (keepsLimit (limitParts (limitOf (job .settings .class)))) (v bytes job)) 17 ≡ true
+    unfolding atPair keepsLimit
+    all-kept k = all-intro (atPair (keepsLimit (limitParts (limitOf (job .settings .class)))) (v bytes job)) 17 (λ i h. le-leb _ _ (k i h))
 
-    one-off : (i : ℕ) → i < 17 → Y bytes job i < off bytes job i → all (atPatch (keepsLimit (limitParts (job .settings .class))) (v bytes job)) 17 ≡ false
-    unfolding atPatch keepsLimit
+    one-off : (i : ℕ) → i < 17 → Y bytes job i < scaledExcess bytes job i → all (atPair (keepsLimit (limitParts (limitOf (job .settings .class)))) (v bytes job)) 17 ≡ false
+    unfolding atPair keepsLimit
     one-off i h k =
-        by (all (atPatch (keepsLimit (limitParts (job .settings .class))) (v bytes job)) 17)
-        (λ t. absurd (yes-is (sym (lt-leb _ _ k) ∙ all-of (atPatch (keepsLimit (limitParts (job .settings .class))) (v bytes job)) 17 i t h)))
+        by (all (atPair (keepsLimit (limitParts (limitOf (job .settings .class)))) (v bytes job)) 17)
+        (λ t. absurd (yes-is (sym (lt-leb _ _ k) ∙ all-of (atPair (keepsLimit (limitParts (limitOf (job .settings .class)))) (v bytes job)) 17 i t h)))
         (λ f. f)
 
 pub check-settles : {bytes : List ℕ} {before after : List ℤ} {x : CheckValues} → CheckOutcome bytes before after x → CheckSettled bytes before after x
@@ -80,16 +80,16 @@ check-settles {bytes = bytes} (fails {job = job} w r i h k) =
 -- ---- a check that was judged
 
 module _ {bytes : List ℕ} {before : List ℤ} {job : Job} (w : Inside bytes before job) (r : pos 10000 ≤ℤ checkRange (v bytes job)) where
-  step : (i : ℕ) → i < 17 → Step (v bytes job i) (v bytes job (i + 1)) (expected (v bytes job) i) (expected (v bytes job) (i + 1))
-  step = step-at (spans (v bytes job) (none w) (wide-range (v bytes job) r))
+  step : (i : ℕ) → i < 17 → Pair (v bytes job i) (v bytes job (i + 1)) (expected (v bytes job) i) (expected (v bytes job) (i + 1))
+  step = pair-at (covers (v bytes job) (none w) (wide-range (v bytes job) r))
 
   positive : (i : ℕ) → i < 17 → 0 < Y bytes job i
-  unfolding atPatch
+  unfolding atPair
   positive i h = expected-pos (step i h)
 
   place : {after : List ℤ} → after ≡ deviationsOf (v bytes job) ++ drop 17 before → (i : ℕ) → i < 17
-      → getD after i (pos 0) ≡ floorOf (pos 1000 *ℤ atPatch excess (v bytes job) i) (Y bytes job i)
-  unfolding atPatch deviationOf
+      → getD after i (pos 0) ≡ floorOf (pos 1000 *ℤ atPair excess (v bytes job) i) (Y bytes job i)
+  unfolding atPair deviationOf
   place e i h =
       ap (λ (xs : List ℤ). getD xs i (pos 0)) e
       ∙ List·getD-append (deviationsOf (v bytes job)) (drop 17 before) (pos 0) i (rw (deviations-length (v bytes job)) h)
@@ -110,15 +110,15 @@ module _ {bytes : List ℕ} {before : List ℤ} {job : Job} (w : Inside bytes be
       ∙ omega (arith, deviations-length (v bytes job), length-drop 17 before, w .checks .long)
 
   judged : {after : List ℤ} (found : Verdict) → after ≡ deviationsOf (v bytes job) ++ drop 17 before
-      → (found ≡ verdict.Pass → (i : ℕ) → i < 17 → off bytes job i ≤ Y bytes job i)
-      → (((i : ℕ) → i < 17 → off bytes job i ≤ Y bytes job i) → found ≡ verdict.Pass) → MadeCheck bytes before after found
+      → (found ≡ verdict.Pass → (i : ℕ) → i < 17 → scaledExcess bytes job i ≤ Y bytes job i)
+      → (((i : ℕ) → i < 17 → scaledExcess bytes job i ≤ Y bytes job i) → found ≡ verdict.Pass) → JudgedCheck bytes before after found
   judged found e kept passed = record {
     job = job;
     inside = w;
     wide = r;
     positive = positive;
-    at-most = λ i h. rw (place e i h) (floor-le (pos 1000 *ℤ atPatch excess (v bytes job) i) (Y bytes job i) (positive i h));
-    largest = λ i h. rw (place e i h) (floor-lt (pos 1000 *ℤ atPatch excess (v bytes job) i) (Y bytes job i) (positive i h));
+    at-most = λ i h. rw (place e i h) (floor-le (pos 1000 *ℤ atPair excess (v bytes job) i) (Y bytes job i) (positive i h));
+    largest = λ i h. rw (place e i h) (floor-lt (pos 1000 *ℤ atPair excess (v bytes job) i) (Y bytes job i) (positive i h));
     size = same-size e;
     later = behind e;
     kept = kept;
@@ -128,8 +128,8 @@ module _ {bytes : List ℕ} {before : List ℤ} {job : Job} (w : Inside bytes be
 module _ (bytes : List ℕ) (before after : List ℤ) where
   -- what each answer tells
   abbrev Told : CheckValues → Type 0
-  Told pass = MadeCheck bytes before after verdict.Pass
-  Told fail = MadeCheck bytes before after verdict.Fail
+  Told pass = JudgedCheck bytes before after verdict.Pass
+  Told fail = JudgedCheck bytes before after verdict.Fail
   Told not-measured = after ≡ before
   Told (number n) = after ≡ before
 
@@ -143,9 +143,9 @@ told (passes w r k) = judged w r verdict.Pass refl (λ p. k) (λ p. refl)
 told (fails w r i h k) = judged w r verdict.Fail refl (λ p. absurd (pass-fail (sym p))) (λ p. clash k (p i h))
 
 module _ {bytes : List ℕ} {before after : List ℤ} where
-  pub made-check : {found : Verdict} → CheckPromise bytes before after (Made found) → MadeCheck bytes before after found
-  made-check {found = verdict.Pass} h = told (h .outcome)
-  made-check {found = verdict.Fail} h = told (h .outcome)
+  pub judged-check : {found : Verdict} → CheckPromise bytes before after (Judged found) → JudgedCheck bytes before after found
+  judged-check {found = verdict.Pass} h = told (h .outcome)
+  judged-check {found = verdict.Fail} h = told (h .outcome)
 
   -- a refusal changes no place
   pub check-refused-keeps : {r : Refusal} → CheckPromise bytes before after (Refused r) → after ≡ before

@@ -19,10 +19,10 @@ use Rattle.record.specs.Sections.{sections, checkIn}
 use Rattle.record.specs.declared.Job.{Job}
 use Rattle.record.proofs.Accepted.{accepted-job}
 use Rattle.contrast.specs.Deviation.{keepsLimit}
-use Rattle.contrast.specs.Check.{someOutside, checkRange, checkTooNarrow, atPatch, deviationsOf, verdictOf, contrastOf, deviationsOver}
+use Rattle.contrast.specs.Check.{someOutside, checkRange, checkTooNarrow, atPair, limitParts, deviationsOf, verdictOf, contrastOf, deviationsOver}
 use Rattle.engine.specs.Sound.{Soundness}
 use Rattle.engine.specs.Conditions.{GoesOn}
-use Rattle.engine.specs.Check.{limitParts, checkOf, checkAfter, checkAnswer, placesOf, placesOver, checkLent, number, pass, fail, checkValues, v, Checks, Inside, CheckOutcome, short, back, unmeasured, outside, narrow, passes, fails, CheckPromise}
+use Rattle.engine.specs.Check.{limitOf, checkOf, checkAfter, checkAnswer, placesOf, placesOver, checkLent, number, pass, fail, checkValues, v, HasReadings, Inside, CheckOutcome, short, back, unmeasured, outside, narrow, passes, fails, CheckPromise}
 use Rattle.engine.specs.declared.CheckAnswer.{CheckAnswer}
 use Rattle.engine.proofs.CheckTests.{past-end, not-past, not-less}
 use Rattle.engine.proofs.Conditions.{madeBy, Standing, stands, returned, standing}
@@ -39,7 +39,7 @@ module _ (bytes : List ℕ) (before : List ℤ) (long : 17 ≤ length before) (j
       ⊎-elim (λ z. inl (eqb-yes z)) (λ z. inr (eqb-yes z)) (or-yes (eqb n 0) (eqb n 18) (accepted-job bytes job (g .accepted) .patches))
 
   module _ (n : length (checkIn (sections bytes)) ≡ 18) where
-    checks : Checks bytes before job
+    checks : HasReadings bytes before job
     checks = record { long = long; goes-on = g; readings = n }
 
     inside : someOutside (v bytes job) ≡ false → Inside bytes before job
@@ -64,15 +64,15 @@ module _ (bytes : List ℕ) (before : List ℤ) (long : 17 ≤ length before) (j
         unfolding checkTooNarrow
         wide = not-less (checkRange (v bytes job)) 10000 w
 
-        found-pass : all (atPatch (keepsLimit (limitParts (job .settings .class))) (v bytes job)) 17 ≡ true
+        found-pass : all (atPair (keepsLimit (limitParts (limitOf (job .settings .class)))) (v bytes job)) 17 ≡ true
             → CheckOutcome bytes before (deviationsOf (v bytes job) ++ drop 17 before) pass
-        unfolding atPatch keepsLimit
-        found-pass k = passes (inside o) wide (λ i h. leb-true _ _ (all-of (atPatch (keepsLimit (limitParts (job .settings .class))) (v bytes job)) 17 i k h))
+        unfolding atPair keepsLimit
+        found-pass k = passes (inside o) wide (λ i h. leb-true _ _ (all-of (atPair (keepsLimit (limitParts (limitOf (job .settings .class)))) (v bytes job)) 17 i k h))
 
-        found-fail : all (atPatch (keepsLimit (limitParts (job .settings .class))) (v bytes job)) 17 ≡ false
+        found-fail : all (atPair (keepsLimit (limitParts (limitOf (job .settings .class)))) (v bytes job)) 17 ≡ false
             → CheckOutcome bytes before (deviationsOf (v bytes job) ++ drop 17 before) fail
-        unfolding atPatch keepsLimit
-        found-fail k = not-all (atPatch (keepsLimit (limitParts (job .settings .class))) (v bytes job)) 17 k (λ i h t. fails (inside o) wide i h (leb-false _ _ t))
+        unfolding atPair keepsLimit
+        found-fail k = not-all (atPair (keepsLimit (limitParts (limitOf (job .settings .class)))) (v bytes job)) 17 k (λ i h t. fails (inside o) wide i h (leb-false _ _ t))
 
   job-outcome : Of (checkOf job (checkIn (sections bytes))) (placesOf job (checkIn (sections bytes)) before)
   unfolding checkOf placesOf contrastOf deviationsOver verdictOf
@@ -83,7 +83,7 @@ module _ (bytes : List ℕ) (before : List ℤ) (long : 17 ≤ length before) (j
       (λ o. rw n (simp o (found-outside n o)))
       (λ o. by (checkTooNarrow (v bytes job))
       (λ w. rw n (simp (o, w) (found-narrow n o w)))
-      (λ w. by (all (atPatch (keepsLimit (limitParts (job .settings .class))) (v bytes job)) 17)
+      (λ w. by (all (atPair (keepsLimit (limitParts (limitOf (job .settings .class)))) (v bytes job)) 17)
       (λ k. rw n (simp (o, w, k) (found-pass n o w k)))
       (λ k. rw n (simp (o, w, k) (found-fail n o w k))))))
       some-or-none

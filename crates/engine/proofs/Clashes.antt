@@ -6,6 +6,8 @@ use native.Mathlib.Omega.{arith}
 use Rattle.record.specs.declared.Refusal.{Refusal}
 use Rattle.record.specs.declared.Job.{Job}
 use Rattle.record.specs.declared.Answer.the-variants as read
+use Rattle.record.specs.declared.SectionCount.the-variants as section
+use Rattle.record.specs.declared.Layout.the-variants.{Complete, Broken}
 use Rattle.target.specs.declared.IndexRange.{IndexRange}
 use Rattle.contrast.specs.declared.Verdict.the-variants.{Pass, Fail}
 use Rattle.engine.specs.Sound.{SoundJob, sound, unsound}
@@ -14,6 +16,12 @@ use Rattle.engine.specs.declared.Frame.{Frame}
 use Rattle.engine.specs.declared.Prepared.the-variants.{Ready, SentBack}
 use Rattle.engine.specs.declared.NearestFigures.{NearestFigures}
 use Rattle.engine.specs.declared.NearestAnswer.the-variants as nearest
+
+pub items-fault : {n : ℕ} {r : Refusal} → section.Items n ≡ section.Fault r → ⊥
+items-fault e = let z : _≡_ {A = ℕ} 0 1 = cc in omega arith
+
+pub complete-broken : {a b c d : ℕ} {r : Refusal} → Complete a b c d ≡ Broken r → ⊥
+complete-broken e = let z : _≡_ {A = ℕ} 0 1 = cc in omega arith
 
 pub accepted-refused : {job : Job} {r : Refusal} → read.Accepted job ≡ read.Refused r → ⊥
 accepted-refused e = let z : _≡_ {A = ℕ} 0 1 = cc in omega arith
@@ -32,6 +40,12 @@ made-refused e = let z : _≡_ {A = ℕ} 0 1 = cc in omega arith
 
 pub pass-fail : Pass ≡ Fail → ⊥
 pass-fail e = let z : _≡_ {A = ℕ} 0 1 = cc in omega arith
+
+pub same-count : {q r : Refusal} → section.Fault q ≡ section.Fault r → q ≡ r
+same-count e = cc
+
+pub same-broken : {q r : Refusal} → Broken q ≡ Broken r → q ≡ r
+same-broken e = cc
 
 pub same-read : {q r : Refusal} → read.Refused q ≡ read.Refused r → q ≡ r
 same-read e = cc

@@ -1,26 +1,32 @@
 -- Which refusals an operation gives.
 -- Assumes nothing.
-use mathlib.Core.Path.{_≡_, refl, subst, _∙_}
+use mathlib.Core.Path.{_≡_, refl, subst}
 use mathlib.Core.List.{List}
-use mathlib.Core.Bool.{_&&_}
+use mathlib.Core.Bool.{not, _&&_}
 use mathlib.Core.Logic.{inl, inr, ⊎-elim}
-use Prim.Native.Nat.{ℕ, _≤_, _<_}
+use Prim.Native.Nat.{ℕ, _+_, _*_, _≤_, _<_}
+use native.Mathlib.Nat.{le-trans}
 use native.Mathlib.Omega.{arith}
-use lib.Dec.{T, leb}
+use lib.Dec.{T, leb, ltb, eqb}
 use lib.IntN.{ℤ}
-use lib.ListN.{length}
+use lib.ListN.{length, getD}
 use mir.Facts.{and-yes, leb-yes}
 use borrow.Author.Tests.{le-ltb, lt-ltb}
 use Rattle.laws.proofs.Cases.{by, le-or-lt}
 use Rattle.record.specs.Refusals.{refusalNumber}
-use Rattle.record.specs.Sections.{sections, ddlsIn, luminancesIn}
-use Rattle.record.specs.Tests.{allUpTo, answerOf}
-use Rattle.record.specs.Outcome.{Outcome, answerFor, Under, too-short, not-permitted, trailing, out-of-range, not-spanning, falls, passes}
+use Rattle.record.specs.Sections.{permitted, width, countOf, rest, after, layoutOf, listsAt, sections, ddlsIn, luminancesIn}
+use Rattle.record.specs.declared.Section.{Section}
+use Rattle.record.specs.declared.Section.the-variants.{Settings, Lamps, Sweep, Check}
+use Rattle.record.specs.declared.SectionCount.{SectionCount}
+use Rattle.record.specs.declared.SectionCount.the-variants as section
+use Rattle.record.specs.declared.Layout.{Layout}
+use Rattle.record.specs.declared.Layout.the-variants.{Complete, Broken}
+use Rattle.record.specs.Bytes.{word}
+use Rattle.record.specs.Tests.{settingsInRange, lampsInRange, maxDdl, spans, neverFalls, judged, judgedOf, answerOf}
 use Rattle.record.specs.declared.Refusal.{Refusal}
 use Rattle.record.specs.declared.Job.{Job}
 use Rattle.record.specs.declared.Answer.{Answer}
 use Rattle.record.specs.declared.Answer.the-variants.{Accepted, Refused}
-use Rattle.record.proofs.Outcomes.{only-under}
 use Rattle.gsdf.specs.Ends.{belowTable, aboveTable}
 use Rattle.curve.specs.Curve.{curveAt}
 use Rattle.target.specs.Target.{rangeOf, tooNarrow}
@@ -35,22 +41,66 @@ use Rattle.engine.specs.declared.NearestAnswer.the-variants as nearest
 use Rattle.engine.specs.declared.CheckAnswer.the-variants as check
 use Rattle.engine.proofs.Conditions.{sent}
 use Rattle.engine.proofs.CheckOutcomes.{some-check}
-use Rattle.engine.proofs.Clashes.{accepted-refused, wide-fault, sound-unsound, made-refused, same-read, same-fault, same-unsound, same-nearest}
+use Rattle.engine.proofs.Clashes.{items-fault, complete-broken, same-count, same-broken, accepted-refused, wide-fault, sound-unsound, made-refused, same-read, same-fault, same-unsound, same-nearest}
 
 numbered : (low high : ℕ) {q r : Refusal} → q ≡ r → T (leb low (refusalNumber q) && leb (refusalNumber q) high) → Numbered low high r
 numbered low high {q = q} e t =
     let (a, b) = and-yes (leb low (refusalNumber q)) _ t in
     subst (Numbered low high) e (record { from = leb-yes a; to = leb-yes b })
 
--- reading a record gives 2 to 7
-read-number : {s : List ℕ} {r : Refusal} (o : Outcome s) → answerFor o ≡ Refused r → Numbered 2 7 r
-read-number (too-short a b) e = numbered 2 7 (same-read e) tt
-read-number (not-permitted a b) e = numbered 2 7 (same-read e) tt
-read-number (trailing a b) e = numbered 2 7 (same-read e) tt
-read-number (out-of-range a b) e = numbered 2 7 (same-read e) tt
-read-number (not-spanning a b c) e = numbered 2 7 (same-read e) tt
-read-number (falls a b c d) e = numbered 2 7 (same-read e) tt
-read-number (passes a b c d) e = absurd (accepted-refused e)
+wider : {low high least most : ℕ} {r : Refusal} → least ≤ low → high ≤ most → Numbered low high r → Numbered least most r
+wider l h n = record { from = le-trans l (n .from); to = le-trans (n .to) h }
+
+-- ---- reading a record gives 2 to 7
+
+count-number : (k : Section) (s : List ℕ) (r : Refusal) → countOf k s ≡ section.Fault r → Numbered 2 4 r
+unfolding countOf
+count-number k s r e =
+    by (ltb (length s) 2)
+    (λ a. numbered 2 4 (same-count (simp a at e)) tt)
+    (λ a. by (not (permitted k (word 0 s)))
+    (λ b. numbered 2 4 (same-count (simp (a, b) at e)) tt)
+    (λ b. by (ltb (length s) (2 + word 0 s * width k))
+    (λ c. numbered 2 4 (same-count (simp (a, b, c) at e)) tt)
+    (λ c. absurd (items-fault (simp (a, b, c) at e)))))
+
+after-number : {r : Refusal} (k : Section) (s : List ℕ) (more : ℕ → Layout) → ((n : ℕ) → more n ≡ Broken r → Numbered 2 4 r) → after (countOf k s) more ≡ Broken r → Numbered 2 4 r
+after-number {r = r} k s more g e = go (countOf k s) refl e
+  where
+    go : (x : SectionCount) → countOf k s ≡ x → after x more ≡ Broken r → Numbered 2 4 r
+    go (section.Fault q) t e = subst (Numbered 2 4) (same-broken e) (count-number k s q t)
+    go (section.Items n) t e = g n e
+
+layout-number : (s : List ℕ) (r : Refusal) → layoutOf s ≡ Broken r → Numbered 2 4 r
+unfolding layoutOf
+layout-number s r e =
+    after-number Settings s _
+    (λ a. after-number Lamps (rest Settings a s) _
+    (λ b. after-number Sweep (rest Lamps b (rest Settings a s)) _
+    (λ c. after-number Check (rest Sweep c (rest Lamps b (rest Settings a s))) _
+    (λ d f. by (eqb (length (rest Check d (rest Sweep c (rest Lamps b (rest Settings a s))))) 0)
+    (λ y. absurd (complete-broken (simp y at f)))
+    (λ n. numbered 2 4 (same-broken (simp n at f)) tt)))))
+    e
+
+judged-number : (settings lamps ddls luminances : List ℕ) (r : Refusal) → judged settings lamps ddls luminances ≡ Refused r → Numbered 5 7 r
+unfolding judged
+judged-number settings lamps ddls luminances r e =
+    by (settingsInRange settings && lampsInRange lamps)
+    (λ a. by (spans (maxDdl (getD settings 0 0)) ddls)
+    (λ b. by (neverFalls luminances)
+    (λ c. absurd (accepted-refused (simp (a, b, c) at e)))
+    (λ c. numbered 5 7 (same-read (simp (a, b, c) at e)) tt))
+    (λ b. numbered 5 7 (same-read (simp (a, b) at e)) tt))
+    (λ a. numbered 5 7 (same-read (simp a at e)) tt)
+
+read-number : (s : List ℕ) (r : Refusal) → answerOf s ≡ Refused r → Numbered 2 7 r
+unfolding answerOf sections
+read-number s r e = go (layoutOf s) refl e
+  where
+    go : (x : Layout) → layoutOf s ≡ x → judgedOf (listsAt s x) ≡ Refused r → Numbered 2 7 r
+    go (Broken q) t e = subst (Numbered 2 7) (same-read e) (wider (omega arith) (omega arith) (layout-number s q t))
+    go (Complete a b c d) t e = wider (omega arith) (omega arith) (judged-number _ _ _ _ r e)
 
 -- tests 8, 9 and 10 give 8 to 10
 range-number : (black white : ℕ) (r : Refusal) → rangeTests black white ≡ Fault r → Numbered 8 10 r
@@ -76,25 +126,19 @@ measured-number job ddls luminances r e = go (rangeTests (F 0) (F (topOf job))) 
     go (Wide indices) t = absurd (sound-unsound (rw t at e))
 
 -- the part up to test 10 gives 2 to 10
-pub unsound-number : (bytes : List ℕ) (r : Refusal) → T (allUpTo 255 bytes) → soundness bytes ≡ unsound r → Numbered 2 10 r
+pub unsound-number : (bytes : List ℕ) (r : Refusal) → soundness bytes ≡ unsound r → Numbered 2 10 r
 unfolding soundness
-unsound-number bytes r small e = go (answerOf bytes) refl
+unsound-number bytes r e = go (answerOf bytes) refl
   where
-    under : Under bytes (answerOf bytes)
-    under = only-under bytes small
-
     go : (x : Answer) → answerOf bytes ≡ x → Numbered 2 10 r
-    go (Refused q) t =
-        let n : Numbered 2 7 q = read-number (under .outcome) (under .is ∙ t) in
-        subst (Numbered 2 10) (same-unsound (rw t at e)) (record { from = n .from; to = omega (arith, n .to) })
+    go (Refused q) t = subst (Numbered 2 10) (same-unsound (rw t at e)) (wider (omega arith) (omega arith) (read-number bytes q t))
     go (Accepted job) t =
-        let n : Numbered 8 10 r = measured-number job (ddlsIn (sections bytes)) (luminancesIn (sections bytes)) r (rw t at e) in
-        record { from = omega (arith, n .from); to = n .to }
+        wider (omega arith) (omega arith) (measured-number job (ddlsIn (sections bytes)) (luminancesIn (sections bytes)) r (rw t at e))
 
 -- the nearest table gives 1 to 10
-pub nearest-number : (bytes : List ℕ) (lent : ℕ) (r : Refusal) → T (allUpTo 255 bytes) → nearestAnswer bytes lent ≡ nearest.Refused r → Numbered 1 10 r
+pub nearest-number : (bytes : List ℕ) (lent : ℕ) (r : Refusal) → nearestAnswer bytes lent ≡ nearest.Refused r → Numbered 1 10 r
 unfolding nearestAnswer
-nearest-number bytes lent r small e =
+nearest-number bytes lent r e =
     ⊎-elim
     (λ (long : 256 ≤ lent). go (soundness bytes) refl (simp (le-ltb _ _ long) at e))
     (λ (short : lent < 256). numbered 1 10 (same-nearest (simp (lt-ltb _ _ short) at e)) tt)
@@ -102,9 +146,7 @@ nearest-number bytes lent r small e =
   where
     go : (x : Soundness) → soundness bytes ≡ x → nearestOf x ≡ nearest.Refused r → Numbered 1 10 r
     go (sound job) t a = absurd (made-refused a)
-    go (unsound q) t a =
-        let n : Numbered 2 10 q = unsound-number bytes q small t in
-        subst (Numbered 1 10) (same-nearest a) (record { from = omega (arith, n .from); to = n .to })
+    go (unsound q) t a = subst (Numbered 1 10) (same-nearest a) (wider (omega arith) (omega arith) (unsound-number bytes q t))
 
 -- the check gives 1 to 10, 12 or 13
 abbrev Number : CheckValues → Type 0
@@ -113,19 +155,19 @@ Number pass = Unit {0}
 Number fail = Unit {0}
 Number (number n) = CheckNumber n
 
-outcome-number : {bytes : List ℕ} {before after : List ℤ} {x : CheckValues} → T (allUpTo 255 bytes) → CheckOutcome bytes before after x → Number x
-outcome-number small (short h) = record { is = inl (omega arith, omega arith) }
-outcome-number {bytes = bytes} small (back long b) =
+outcome-number : {bytes : List ℕ} {before after : List ℤ} {x : CheckValues} → CheckOutcome bytes before after x → Number x
+outcome-number (short h) = record { is = inl (omega arith, omega arith) }
+outcome-number {bytes = bytes} (back long b) =
     let u = sent b in
-    let n : Numbered 2 10 (u .refusal) = unsound-number bytes (u .refusal) small (u .is) in
+    let n : Numbered 2 10 (u .refusal) = unsound-number bytes (u .refusal) (u .is) in
     record { is = inl (omega (arith, n .from, u .numbered), omega (arith, n .to, u .numbered)) }
-outcome-number small (unmeasured l g z) = tt
-outcome-number small (outside c i h t) = record { is = inr (inl refl) }
-outcome-number small (narrow w h) = record { is = inr (inr refl) }
-outcome-number small (passes w r k) = tt
-outcome-number small (fails w r i h k) = tt
+outcome-number (unmeasured l g z) = tt
+outcome-number (outside c i h t) = record { is = inr (inl refl) }
+outcome-number (narrow w h) = record { is = inr (inr refl) }
+outcome-number (passes w r k) = tt
+outcome-number (fails w r i h k) = tt
 
-pub check-number : (bytes : List ℕ) (before : List ℤ) (r : Refusal) → T (allUpTo 255 bytes) → checkAnswer bytes (length before) ≡ check.Refused r → CheckNumber (refusalNumber r)
-check-number bytes before r small e =
+pub check-number : (bytes : List ℕ) (before : List ℤ) (r : Refusal) → checkAnswer bytes (length before) ≡ check.Refused r → CheckNumber (refusalNumber r)
+check-number bytes before r e =
     let o : CheckOutcome bytes before (checkLent bytes before) (number (refusalNumber r)) = rw e at (some-check bytes before) in
-    outcome-number small o
+    outcome-number o

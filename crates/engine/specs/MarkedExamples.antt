@@ -8,8 +8,9 @@ use Rattle.gsdf.specs.DisplayFunction.{luminanceOf, indexOf}
 use Rattle.curve.specs.Curve.{curveAt}
 use Rattle.nearest.specs.Nearest.{nearestLevel}
 use Rattle.contrast.specs.Deviation.{deviationOf, keepsLimit}
+use Rattle.contrast.specs.Check.{limitParts}
 use Rattle.record.specs.declared.Class.the-variants.{Primary}
-use Rattle.engine.specs.Check.{limitParts}
+use Rattle.engine.specs.Check.{limitOf}
 
 pub record MarkedExamples : Type 0 where
   pub index-500 : indexOf 500 ≡ 102
@@ -24,7 +25,7 @@ pub record MarkedExamples : Type 0 where
   pub nearest-16 : nearestLevel (10 ∷ 20 ∷ 20 ∷ 30 ∷ []) 16 ≡ 1
   pub nearest-25 : nearestLevel (10 ∷ 20 ∷ 20 ∷ 30 ∷ []) 25 ≡ 1
   pub deviation-9-31 : deviationOf 9 31 1 3 ≡ pos 100
-  pub limit-9-31 : keepsLimit (limitParts Primary) 9 31 1 3 ≡ true
+  pub limit-9-31 : keepsLimit (limitParts (limitOf Primary)) 9 31 1 3 ≡ true
   pub deviation-900-3101 : deviationOf 900 3101 1 3 ≡ pos 100
-  pub limit-900-3101 : keepsLimit (limitParts Primary) 900 3101 1 3 ≡ false
+  pub limit-900-3101 : keepsLimit (limitParts (limitOf Primary)) 900 3101 1 3 ≡ false
   pub deviation-11000-10999 : deviationOf 11000 10999 10123 10370 ≡ negℤ (pos 1004)

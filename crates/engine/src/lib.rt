@@ -6,9 +6,10 @@ ghost use Rattle.gsdf.specs.Table.{tableB1};
 ghost use Rattle.engine.specs.Sound.{soundness, measured, rangeTests};
 ghost use Rattle.engine.specs.Preparing.{lightOf, sweepTests, Arrays, Climbs, InFront, Measurable, Prepares};
 ghost use Rattle.engine.specs.Nearest.{NearestPromise};
-ghost use Rattle.engine.specs.Check.{limitParts, contrastAnswer, CheckPromise};
+ghost use Rattle.engine.specs.Check.{limitOf, contrastAnswer, CheckPromise};
 ghost use Rattle.engine.specs.Checking.{CheckFront, JobChecked};
 use contrast::Contrast;
+use contrast::Limit;
 use contrast::Verdict;
 use curve::RoomMark;
 use record::Answer;
@@ -56,9 +57,9 @@ pub enum NearestAnswer {
     Refused(Refusal),
 }
 
-// A verdict, or that there is nothing to check.
+// The verdict of a check, or that the record has none, or what sends it back.
 pub enum CheckAnswer {
-    Made(Verdict),
+    Judged(Verdict),
     NotMeasured,
     Refused(Refusal),
 }
@@ -209,13 +210,12 @@ pub fn nearest_table(bytes: &[u8], table: &mut [u16]) -> NearestAnswer
     }
 }
 
-// One part in 10 or in 5.
-fn limit_parts(class: Class) -> u64
-    ensures { λ r. ⌜ r ≡ limitParts class ⌝ }
+fn limit_of(class: Class) -> Limit
+    ensures { λ r. ⌜ r ≡ limitOf class ⌝ }
 {
     match class {
-        Class::Primary => 10,
-        Class::Secondary => 5,
+        Class::Primary => Limit::TenPercent,
+        Class::Secondary => Limit::TwentyPercent,
     }
 }
 
@@ -223,7 +223,7 @@ fn contrast_answer(contrast: Contrast) -> CheckAnswer
     ensures { λ r. ⌜ r ≡ contrastAnswer contrast ⌝ }
 {
     match contrast {
-        Contrast::Judged(verdict) => CheckAnswer::Made(verdict),
+        Contrast::Judged(verdict) => CheckAnswer::Judged(verdict),
         Contrast::OutsideTable => CheckAnswer::Refused(Refusal::CheckOutsideTable),
         Contrast::CheckTooNarrow => CheckAnswer::Refused(Refusal::CheckRangeTooNarrow),
     }
@@ -253,8 +253,8 @@ fn check_job<'a>(
             }
             let settings = job.settings;
             let class = settings.class;
-            let parts = limit_parts(class);
-            let contrast = contrast::check(&b1, check, added, parts, deviations);
+            let limit = limit_of(class);
+            let contrast = contrast::check(&b1, check, added, limit, deviations);
             contrast_answer(contrast)
         }
     }

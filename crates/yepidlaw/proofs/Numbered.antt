@@ -40,7 +40,7 @@ called h e = record { numbers = e ∙ ap resultOf (h .answers); table = h .table
 
 -- ---- the check
 
-pub check-judged : {answer : CheckAnswer} {verdict : Verdict} {n : ℕ} → answer ≡ check.Made verdict → n ≡ verdictNumber verdict
+pub check-judged : {answer : CheckAnswer} {verdict : Verdict} {n : ℕ} → answer ≡ check.Judged verdict → n ≡ verdictNumber verdict
     → record { refusal = 0; verdict = n } ≡ checkResultOf answer
 check-judged e f = rw (e, f)
 

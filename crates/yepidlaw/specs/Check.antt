@@ -9,7 +9,7 @@ use Rattle.contrast.specs.declared.Verdict.{Verdict}
 use Rattle.contrast.specs.declared.Verdict.the-variants.{Pass, Fail}
 use Rattle.engine.specs.Check.{checkAnswer, checkLent}
 use Rattle.engine.specs.declared.CheckAnswer.{CheckAnswer}
-use Rattle.engine.specs.declared.CheckAnswer.the-variants.{Made, NotMeasured, Refused}
+use Rattle.engine.specs.declared.CheckAnswer.the-variants.{Judged, NotMeasured, Refused}
 use Rattle.yepidlaw.specs.declared.CheckResult.{CheckResult}
 
 -- the verdict in the result; document 01 has words alone
@@ -19,7 +19,7 @@ verdictNumber Fail = 2
 
 -- refusal 0 and the verdict, 0 for one that was not measured; or the refusal's number and 0
 abbrev pub checkResultOf : CheckAnswer → CheckResult
-checkResultOf (Made verdict) = record { refusal = 0; verdict = verdictNumber verdict }
+checkResultOf (Judged verdict) = record { refusal = 0; verdict = verdictNumber verdict }
 checkResultOf NotMeasured = record { refusal = 0; verdict = 0 }
 checkResultOf (Refused r) = record { refusal = refusalNumber r; verdict = 0 }
 

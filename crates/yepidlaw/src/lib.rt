@@ -99,7 +99,7 @@ fn check_result(answer: CheckAnswer) -> CheckResult
     ensures { λ r. ⌜ r ≡ checkResultOf answer ⌝ }
 {
     match answer {
-        CheckAnswer::Made(found) => {
+        CheckAnswer::Judged(found) => {
             let verdict = verdict_number(found);
             CheckResult {
                 refusal: 0,

@@ -3,7 +3,7 @@ use denote.Ref.{now}
 use native.Mathlib.Omega.{arith}
 use Rattle.gsdf.proofs.Laws.{index-high}
 use Rattle.contrast.specs.Check.{shown}
-use Rattle.contrast.proofs.Checking.{Ends, ends, found-outside, found-inside, found-narrow, found-range, judged-pass, judged-fail}
+use Rattle.contrast.proofs.Checking.{Ends, ends, found-outside, found-inside, found-narrow, found-range, parts-most, judged-pass, judged-fail}
 use Rattle.contrast.proofs.check.Statement.{statement}
 use Rattle.contrast.proofs.check.Tie as tie
 
@@ -51,34 +51,30 @@ found c =
 returns-2 : tie.Need-returns-2
 returns-2 c = found-narrow (found (c .before)) _ _ (omega arith)
 
-sub-t16 : tie.Need-sub-t16
-sub-t16 c = search needs
+sub-width : tie.Need-sub-width
+sub-width c = search needs
+
+parts-of-requires : tie.Need-parts-of-requires
+parts-of-requires c κs = search needs
 
 fill-deviations-requires : tie.Need-fill-deviations-requires
 fill-deviations-requires c κs =
-    let start = c .before .before .before .before .before .before .before .before .before in (
-      record {
-        lent = start .pre .lent;
-        patches = start .pre .patches;
-        limit = omega (arith, start .pre .limit);
-        fits = start .pre .fits;
-      },
-      found-range (found (c .before .before)) (omega arith),
-    )
+    let start = c .before .before .before .before .before .before .before .before .before .before in
+    (start .pre, parts-most (start .args .limit) (c .before .parts-of .ensures), found-range (found (c .before .before .before)) (omega arith))
 
 same-length : tie.Need-same-length
 same-length c = search needs
 
 returns-3 : tie.Need-returns-3
 returns-3 c =
-    judged-pass (found (c .before .before .before .before .before)) (omega arith) (c .before .before .fill-deviations .ensures) (c .if3 .taken)
+    judged-pass (found (c .before .before .before .before .before .before)) (omega arith) _ (c .before .before .before .before .parts-of .ensures) (c .before .before .fill-deviations .ensures) (c .if3 .taken)
 
 same-length-2 : tie.Need-same-length-2
 same-length-2 c = search needs
 
 returns-4 : tie.Need-returns-4
 returns-4 c =
-    judged-fail (found (c .before .before .before .before .before)) (omega arith) (c .before .before .fill-deviations .ensures) (c .if3 .left)
+    judged-fail (found (c .before .before .before .before .before .before)) (omega arith) _ (c .before .before .before .before .parts-of .ensures) (c .before .before .fill-deviations .ensures) (c .if3 .left)
 
 pub check-spec : {M : Type 1} → statement M
 check-spec =
@@ -92,7 +88,8 @@ check-spec =
     index-in-requires-2
     add-least
     returns-2
-    sub-t16
+    sub-width
+    parts-of-requires
     fill-deviations-requires
     same-length
     returns-3

@@ -3,7 +3,7 @@ use mathlib.Core.Path.{_≡_}
 use native.Mathlib.Omega.{arith}
 use Rattle.contrast.specs.Deviation.{deviationOf}
 use Rattle.contrast.proofs.Bounds.{expected-top, expected-pos}
-use Rattle.contrast.proofs.Steps.{scaled-fits, floor-is, deviation-narrows, deviation-is}
+use Rattle.contrast.proofs.Pairs.{scaled-fits, floor-is, deviation-narrows, deviation-is}
 use Rattle.contrast.proofs.deviation.Statement.{statement}
 use Rattle.contrast.proofs.deviation.Tie as tie
 
@@ -18,8 +18,8 @@ mul-floor-div c = scaled-fits (c .before .before .pre) (c .excess-contrast .ensu
 
 floor-div-requires : tie.Need-floor-div-requires
 floor-div-requires c κs =
-    let step = c .before .before .pre in
-    rw (c .before .expected-contrast .ensures) (expected-pos step, omega (arith, expected-top step))
+    let pair = c .before .before .pre in
+    rw (c .before .expected-contrast .ensures) (expected-pos pair, omega (arith, expected-top pair))
 
 -- what floor_div answers
 floored : (c : tie.After-floor-div)

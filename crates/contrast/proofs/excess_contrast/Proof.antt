@@ -2,7 +2,7 @@ use borrow.Author.Needs.{needs}
 use Prim.Native.Nat.{_*_, _≤_}
 use native.Mathlib.Omega.{arith}
 use Rattle.contrast.proofs.Bounds.{expected-top}
-use Rattle.contrast.proofs.Steps.{difference-fits, sum-fits, shown-word-fits, excess-word-fits, excess-is}
+use Rattle.contrast.proofs.Pairs.{difference-fits, sum-fits, shown-word-fits, excess-word-fits, excess-is}
 use Rattle.contrast.proofs.excess_contrast.Statement.{statement}
 use Rattle.contrast.proofs.excess_contrast.Tie as tie
 

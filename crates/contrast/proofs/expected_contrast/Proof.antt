@@ -2,7 +2,7 @@ use borrow.Author.Needs.{needs}
 use mathlib.Core.Path.{refl}
 use native.Mathlib.Omega.{arith}
 use Rattle.contrast.specs.Deviation.{expectedContrast}
-use Rattle.contrast.proofs.Steps.{product-fits}
+use Rattle.contrast.proofs.Pairs.{product-fits}
 use Rattle.contrast.proofs.expected_contrast.Statement.{statement}
 use Rattle.contrast.proofs.expected_contrast.Tie as tie
 

@@ -1,5 +1,5 @@
 use borrow.Author.Needs.{needs}
-use Rattle.contrast.proofs.Steps.{magnitude-is, parts-fit, judgement-is}
+use Rattle.contrast.proofs.Pairs.{magnitude-is, parts-fit, judgement-is}
 use Rattle.contrast.proofs.keeps_limit.Statement.{statement}
 use Rattle.contrast.proofs.keeps_limit.Tie as tie
 

@@ -13,7 +13,7 @@ use Rattle.engine.proofs.check_job.Lts as lts
 use Rattle.contrast.proofs.check.Reads as check-reads
 use Rattle.engine.proofs.contrast_answer.Reads as contrast-answer-reads
 use Rattle.engine.proofs.light_of.Reads as light-of-reads
-use Rattle.engine.proofs.limit_parts.Reads as limit-parts-reads
+use Rattle.engine.proofs.limit_of.Reads as limit-of-reads
 use Rattle.engine.proofs.test_sweep.Reads as test-sweep-reads
 use Rattle.gsdf.proofs.table_b1.Reads as table-b1-reads
 
@@ -49,12 +49,12 @@ returns c =
     not-measured (start .args .job) (start .pre .0) _ wide _ (omega arith)
 
 -- src/lib.rt:256:17
-limit-parts-requires : tie.Need-limit-parts-requires
-limit-parts-requires c κs = search needs
+limit-of-requires : tie.Need-limit-of-requires
+limit-of-requires c κs = search needs
 
 -- src/lib.rt:257:17
 check-requires : tie.Need-check-requires
-check-requires c κs = checkable (c .before .before .before .before .before .before .before .before .before .before .before .before .before .before .before .before .args .job) (c .before .before .before .before .before .before .before .before .before .before .before .before .before .before .before .before .pre .0) _ (c .before .before .before .before .before .before .before .before .before .before .before .table-b1 .ensures) (c .before .before .limit-parts .ensures) (c .before .before .before .before .before .before .before .before .before .before .before .before .before .before .before .before .pre .1)
+check-requires c κs = checkable (c .before .before .before .before .before .before .before .before .before .before .before .before .before .before .before .before .args .job) (c .before .before .before .before .before .before .before .before .before .before .before .before .before .before .before .before .pre .0) _ (c .before .before .before .before .before .before .before .before .before .before .before .table-b1 .ensures) (c .before .before .before .before .before .before .before .before .before .before .before .before .before .before .before .before .pre .1)
 
 -- src/lib.rt:258:13
 contrast-answer-requires : tie.Need-contrast-answer-requires
@@ -76,7 +76,7 @@ returns-3 : tie.Need-returns-3
 returns-3 c =
     let start = c .before .before .before .before .before .before .before .before .before .before .before .before .before .before .before .before .before .before .before in
     let wide = tested (start .args .job) (take (start .args .n) (now (start .args .luminances))) _ _ (c .before .before .before .before .before .before .before .before .before .before .before .before .before .before .before .before .light-of .ensures) (sym (c .before .before .before .before .before .before .before .before .before .before .before .test-sweep .ensures) ∙ c .before .before .before .before .before .before .before .before .before .found2 .given .1) in
-    measured (start .args .job) (start .pre .0) _ wide (c .before .before .before .before .before .before .before .before .before .before .before .before .before .before .before .before .light-of .ensures) (c .before .before .before .before .before .before .before .if1 .left) (c .before .before .before .before .before .limit-parts .ensures) (c .before .before .check .ensures) (c .contrast-answer .ensures)
+    measured (start .args .job) (start .pre .0) _ wide (c .before .before .before .before .before .before .before .before .before .before .before .before .before .before .before .before .light-of .ensures) (c .before .before .before .before .before .before .before .if1 .left) (c .before .before .before .before .before .limit-of .ensures) (c .before .before .check .ensures) (c .contrast-answer .ensures)
 
 pub check-job-spec : {M : Type 1} → statement M
 check-job-spec =
@@ -89,7 +89,7 @@ check-job-spec =
     enum-known-found
     enum-known-found-2
     returns
-    limit-parts-requires
+    limit-of-requires
     check-requires
     contrast-answer-requires
     returns-2

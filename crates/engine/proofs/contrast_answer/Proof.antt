@@ -1,4 +1,4 @@
-use Rattle.engine.proofs.Checking.{answer-made, answer-outside, answer-narrow}
+use Rattle.engine.proofs.Checking.{answer-judged, answer-outside, answer-narrow}
 use borrow.Author.Needs.{needs}
 use Rattle.engine.proofs.contrast_answer.Statement.{statement}
 use Rattle.engine.proofs.contrast_answer.Tie as tie
@@ -19,7 +19,7 @@ enum-told-2 c = search needs
 
 -- src/lib.rt:222:1
 returns : tie.Need-returns
-returns c = answer-made (c .before .contrast .given .1)
+returns c = answer-judged (c .before .contrast .given .1)
 
 -- src/lib.rt:222:1
 returns-2 : tie.Need-returns-2

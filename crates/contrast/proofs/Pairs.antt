@@ -1,4 +1,4 @@
--- X − Y, the deviation and the judgement of a step, from the words of the code.
+-- X − Y, the deviation and the judgement of a pair, from the words of the code.
 -- Assumes nothing.
 use mathlib.Core.Path.{_≡_, _∙_}
 use Prim.Native.Nat.{ℕ, _+_, _*_, _≤_}
@@ -11,7 +11,7 @@ use mir.Val.{Fits, SFits, toZ, ofZ}
 use mir.ValLaws.{toZ-ofZ, toZ-pos}
 use Rattle.laws.proofs.Signed.{signed-fits, abs-minus, abs-minus-le, abs-times}
 use Rattle.contrast.specs.Deviation.{floorOf, shownContrast, expectedContrast, excess, deviationOf, keepsLimit}
-use Rattle.contrast.specs.Check.{Step}
+use Rattle.contrast.specs.Check.{Pair}
 use Rattle.contrast.proofs.Bounds.{product-top, shown-top, expected-top, excess-top, excess-fits, thousand-fits, per-mille-fits, per-mille-wide}
 
 -- Y
@@ -62,9 +62,9 @@ module _ (p s c h : ℕ) (hp : p ≤ 39934040) (hs : s ≤ 39934040) (hc : c ≤
       rw (read-back, toZ-pos w64 y (omega arith))
       (signed-fits w64 (shownContrast p s c h -ℤ pos y) (omega (arith, abs-minus-le (shownContrast p s c h) (pos y), shown-top p s c h hp hs hc hh)))
 
--- ---- of a step
+-- ---- of a pair
 
-module _ {p s c h : ℕ} (st : Step p s c h) where
+module _ {p s c h : ℕ} (st : Pair p s c h) where
   pub excess-is : {y : ℕ} → y ≡ expectedContrast p s c h
       → toZ w64 (ofZ w64 (toZ w64 (ofZ w64 (shownWord p s c h)) -ℤ toZ w64 y)) ≡ excess p s c h
   unfolding excess
