@@ -23,10 +23,11 @@ use Rattle.contrast.specs.declared.Verdict.the-variants as verdict
 use Rattle.contrast.proofs.Floor.{floor-le, floor-lt}
 use Rattle.contrast.proofs.Bounds.{expected-pos}
 use Rattle.contrast.proofs.Laws.{covers, pair-at, deviations-length, deviations-at}
+use Rattle.engine.specs.Conditions.{madeBy}
 use Rattle.engine.specs.Check.{limitOf, contrastAnswer, checkOf, checkAnswer, placesOf, checkLent, CheckValues, not-measured, pass, fail, number, checkValues, v, scaledExcess, Y, HasReadings, Inside, CheckOutcome, short, back, unmeasured, outside, narrow, passes, fails, CheckPromise}
 use Rattle.engine.specs.CheckFacts.{JudgedCheck, CheckSettled}
 use Rattle.engine.specs.declared.CheckAnswer.the-variants.{Judged, NotMeasured, Refused}
-use Rattle.engine.proofs.Conditions.{madeBy, sent, went-on}
+use Rattle.engine.proofs.Conditions.{sent, went-on}
 use Rattle.engine.proofs.CheckTests.{outside-found, none-outside, is-narrow, wide-range}
 use Rattle.engine.proofs.Clashes.{pass-fail}
 

@@ -21,11 +21,11 @@ use Rattle.record.proofs.Accepted.{accepted-job}
 use Rattle.contrast.specs.Deviation.{keepsLimit}
 use Rattle.contrast.specs.Check.{someOutside, checkRange, checkTooNarrow, atPair, limitParts, deviationsOf, verdictOf, contrastOf, deviationsOver}
 use Rattle.engine.specs.Sound.{Soundness}
-use Rattle.engine.specs.Conditions.{GoesOn}
+use Rattle.engine.specs.Conditions.{GoesOn, madeBy, Standing, stands, returned}
 use Rattle.engine.specs.Check.{limitOf, checkOf, checkAfter, checkAnswer, placesOf, placesOver, checkLent, number, pass, fail, checkValues, v, HasReadings, Inside, CheckOutcome, short, back, unmeasured, outside, narrow, passes, fails, CheckPromise}
 use Rattle.engine.specs.declared.CheckAnswer.{CheckAnswer}
 use Rattle.engine.proofs.CheckTests.{past-end, not-past, not-less}
-use Rattle.engine.proofs.Conditions.{madeBy, Standing, stands, returned, standing}
+use Rattle.engine.proofs.Conditions.{standing}
 
 -- ---- the outcome of a sound job
 

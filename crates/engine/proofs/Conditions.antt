@@ -3,38 +3,17 @@
 use mathlib.Core.Path.{_≡_, refl}
 use mathlib.Core.List.{List}
 use Prim.Native.Nat.{ℕ}
-use lib.ListN.{getD}
 use borrow.Author.Tests.{ltb-true, ltb-false, le-ltb, lt-ltb}
 use Rattle.laws.proofs.Cases.{by}
-use Rattle.record.specs.Refusals.{refusalNumber}
-use Rattle.record.specs.Sections.{sections, ddlsIn, luminancesIn}
 use Rattle.record.specs.Tests.{answerOf}
-use Rattle.record.specs.declared.Refusal.{Refusal}
 use Rattle.record.specs.declared.Refusal.the-variants.{BlackBelowTable, WhiteAboveTable, RangeTooNarrow}
 use Rattle.record.specs.declared.Job.{Job}
 use Rattle.record.specs.declared.Answer.{Answer}
 use Rattle.record.specs.declared.Answer.the-variants as read
 use Rattle.gsdf.specs.Ends.{belowTable, aboveTable}
-use Rattle.curve.specs.Room.{roomMark}
-use Rattle.curve.specs.Curve.{curveOf}
-use Rattle.target.specs.Target.{rangeOf, tooNarrow, targetsOf}
-use Rattle.engine.specs.Sound.{SoundJob, Soundness, sound, unsound, rangeTests, measured, soundness, roomOf, addedOf, topOf}
-use Rattle.engine.specs.Conditions.{F, jlo, N, SendsBack, unread, black, white, narrow, GoesOn}
-
--- what a job makes of a record
-unfoldable pub madeBy : (bytes : List ℕ) → Job → SoundJob
-madeBy bytes job = record {
-  accepted = job;
-  curve = curveOf (addedOf job) (ddlsIn (sections bytes)) (luminancesIn (sections bytes)) (topOf job);
-  targets = targetsOf (jlo bytes job) (N bytes job) 255;
-  indices = rangeOf (F bytes job 0) (F bytes job (topOf job));
-  mark = roomMark (roomOf job) (getD (luminancesIn (sections bytes)) 0 0);
-}
-
--- the conditions on a record, beside what `soundness` says of it
-pub data Standing (bytes : List ℕ) : Soundness → Type 0 where
-  stands : {job : Job} → GoesOn bytes job → Standing bytes (sound (madeBy bytes job))
-  returned : {r : Refusal} → SendsBack bytes (refusalNumber r) → Standing bytes (unsound r)
+use Rattle.target.specs.Target.{rangeOf, tooNarrow}
+use Rattle.engine.specs.Sound.{sound, rangeTests, measured, soundness, topOf}
+use Rattle.engine.specs.Conditions.{F, SendsBack, unread, black, white, narrow, GoesOn, madeBy, Standing, stands, returned, Unsound}
 
 module _ (bytes : List ℕ) where
   job-standing : (job : Job) → answerOf bytes ≡ read.Accepted job → Standing bytes (soundness bytes)
@@ -57,11 +36,6 @@ module _ (bytes : List ℕ) where
       go (read.Accepted job) e = job-standing job e
 
 -- the conditions settle the soundness
-pub record Unsound (bytes : List ℕ) (n : ℕ) : Type 0 where
-  pub refusal : Refusal
-  pub is : soundness bytes ≡ unsound refusal
-  pub numbered : refusalNumber refusal ≡ n
-
 pub sent : {bytes : List ℕ} {n : ℕ} → SendsBack bytes n → Unsound bytes n
 unfolding soundness measured rangeTests belowTable aboveTable rangeOf
 sent (unread {r = r} e) = record { refusal = r; is = simp e; numbered = refl }

@@ -10,11 +10,11 @@ use Rattle.laws.proofs.Cases.{le-or-lt}
 use Rattle.target.specs.Target.{rangeOf}
 use Rattle.target.proofs.Laws.{targets-length}
 use Rattle.engine.specs.Sound.{Soundness}
-use Rattle.engine.specs.Conditions.{jlo, N}
+use Rattle.engine.specs.Conditions.{jlo, N, madeBy, Standing, stands, returned}
 use Rattle.engine.specs.Nearest.{nearestOf, nearestAnswer, entriesOver, nearestLent, NearestValues, number, valuesOf, NearestOutcome, short, back, made, NearestPromise}
 use Rattle.engine.specs.NearestFacts.{Settled}
 use Rattle.engine.specs.declared.NearestAnswer.{NearestAnswer}
-use Rattle.engine.proofs.Conditions.{madeBy, Standing, stands, returned, standing, sent, went-on}
+use Rattle.engine.proofs.Conditions.{standing, sent, went-on}
 
 module _ (bytes before : List ℕ) where
   long-outcome : (x : Soundness) → 256 ≤ length before → Standing bytes x → NearestOutcome bytes before (entriesOver x before) (valuesOf (nearestOf x))
