@@ -31,7 +31,7 @@ pub enum Contrast {
     CheckTooNarrow,
 }
 
-// n / d rounded toward minus infinity.
+// n / d rounded toward minus infinity. Division rounds toward zero: below 0 it is made on −1 − n, and its quotient turned back in the same way.
 fn floor_div(n: i64, d: u64) -> i64
     requires { ⌜ (0 < d) × (d < 9223372036854775808) ⌝ }
     ensures { λ r. ⌜ r ≡ floorOf n d ⌝ }
@@ -40,6 +40,7 @@ fn floor_div(n: i64, d: u64) -> i64
     if n < 0 { -1 - (-1 - n) / e } else { n / e }
 }
 
+// −1 − z has a word even where −z has none.
 fn magnitude(z: i64) -> u64
     ensures { λ r. ⌜ r ≡ natAbs z ⌝ }
 {
