@@ -1,12 +1,14 @@
 //! The contrast check of a job record, engine against reference, and both against what document 01 says where it says it outright.
+mod alone;
 mod every;
 mod generated;
 mod limits;
 mod order;
 mod stated;
+mod whole;
 
 use compare::yepidlaw::{self, Check};
-use reference::contrast::{Contrast, STEPS};
+use reference::contrast::{Contrast, PAIRS};
 use reference::engine::Engine;
 use reference::gsdf::Gsdf;
 use reference::record::Record;
@@ -48,7 +50,7 @@ impl Answer {
         let verdict = match contrast {
             None => NOT_MEASURED,
             Some(contrast) => {
-                for (place, &deviation) in lent.slice()[..STEPS].iter_mut().zip(&contrast.deviations) {
+                for (place, &deviation) in lent.slice()[..PAIRS].iter_mut().zip(&contrast.deviations) {
                     *place = i32::try_from(deviation).expect("a deviation has 32 bits");
                 }
                 if contrast.passes {
@@ -84,12 +86,21 @@ fn job(meter: u64, class: u64, lamps: &[u64], check: Vec<u64>) -> Record {
 
 /// What is expected of 18 patches between two indices.
 fn expected(gsdf: &Gsdf, jlo: u64, jhi: u64) -> Vec<u64> {
-    Range { jlo, jhi }.targets(gsdf, STEPS as u64)
+    Range { jlo, jhi }.targets(gsdf, PAIRS as u64)
 }
 
 /// The readings of these luminances without the room light.
 fn without(added: u64, luminances: &[u64]) -> Vec<u64> {
     luminances.iter().map(|luminance| luminance - added).collect()
+}
+
+/// What is wrong with the engine's answer to a record that has this verdict.
+fn judged(random: &mut Random, reference: &Engine, record: &Record, verdict: u32) -> Option<String> {
+    let places = random.one_of(&[17, 18, 40]);
+    let lent = Lent::new(random, &record.bytes(), places);
+    let answer = Answer::of_engine(&lent);
+    let stated = (answer.result != Check { refusal: 0, verdict }).then(|| format!("the engine's verdict should be {verdict}"));
+    stated.or_else(|| answer.difference(&Answer::of_reference(reference, &lent)))
 }
 
 type Change = fn(&mut Answer);
@@ -135,6 +146,8 @@ pub fn results(reference: &Engine) -> Vec<bool> {
     results.push(order::lowest_number(reference));
     results.extend(every::results(reference));
     results.extend(limits::results(reference));
+    results.push(alone::far_off(reference));
+    results.extend(whole::results(reference));
     results.extend(generated_results(reference, jobs::COUNT, jobs::SEED));
     results
 }

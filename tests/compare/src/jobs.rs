@@ -2,6 +2,7 @@
 mod checks;
 pub mod damage;
 mod ends;
+pub mod factors;
 pub mod limits;
 mod panels;
 

@@ -2,22 +2,24 @@
 use crate::gsdf::Gsdf;
 use crate::target::Range;
 
-/// How many steps there are between the 18 patches.
-pub const STEPS: usize = 17;
+/// How many pairs of neighbouring patches there are.
+pub const PAIRS: usize = 17;
+/// The same by another name.
+pub const STEPS: usize = PAIRS;
 const LEAST_RANGE: i128 = 10_000;
 
 /// Two neighbouring patches: X and Y.
 #[derive(Clone, Debug, PartialEq)]
-pub struct Step {
+pub struct Pair {
     pub x: i128,
     pub y: i128,
 }
 
-impl Step {
+impl Pair {
     /// From p to s, where c to h is expected.
-    pub fn new(p: u64, s: u64, c: u64, h: u64) -> Step {
+    pub fn new(p: u64, s: u64, c: u64, h: u64) -> Pair {
         let [p, s, c, h] = [p, s, c, h].map(i128::from);
-        Step { x: (s - p) * (h + c), y: (h - c) * (s + p) }
+        Pair { x: (s - p) * (h + c), y: (h - c) * (s + p) }
     }
 
     /// In parts per thousand, rounded down: the remainder is not negative.
@@ -55,8 +57,8 @@ pub struct Contrast {
     pub measured: Vec<u64>,
     /// e(0) to e(17).
     pub expected: Vec<u64>,
-    pub steps: Vec<Step>,
-    /// Of each step.
+    pub pairs: Vec<Pair>,
+    /// Of each pair.
     pub deviations: Vec<i128>,
     pub passes: bool,
 }
@@ -64,20 +66,20 @@ pub struct Contrast {
 impl Contrast {
     /// The check of v(0) to v(17), or 12 or 13.
     pub fn of(gsdf: &Gsdf, measured: Vec<u64>, class: u64) -> Result<Contrast, u32> {
-        assert_eq!(measured.len(), STEPS + 1);
+        assert_eq!(measured.len(), PAIRS + 1);
         if measured.iter().any(|&v| v < gsdf.darkest() || gsdf.brightest() < v) {
             return Err(12);
         }
-        let [jlo, jhi] = [measured[0], measured[STEPS]].map(|v| gsdf.scanned_index(v));
+        let [jlo, jhi] = [measured[0], measured[PAIRS]].map(|v| gsdf.scanned_index(v));
         let range = i128::from(jhi) - i128::from(jlo);
         if range < LEAST_RANGE {
             return Err(13);
         }
-        let expected = Range { jlo, jhi }.targets(gsdf, STEPS as u64);
-        let step = |i: usize| Step::new(measured[i], measured[i + 1], expected[i], expected[i + 1]);
-        let steps: Vec<Step> = (0..STEPS).map(step).collect();
-        let deviations = steps.iter().map(Step::deviation).collect();
-        let passes = steps.iter().all(|step| step.passes(class));
-        Ok(Contrast { range, measured, expected, steps, deviations, passes })
+        let expected = Range { jlo, jhi }.targets(gsdf, PAIRS as u64);
+        let pair = |i: usize| Pair::new(measured[i], measured[i + 1], expected[i], expected[i + 1]);
+        let pairs: Vec<Pair> = (0..PAIRS).map(pair).collect();
+        let deviations = pairs.iter().map(Pair::deviation).collect();
+        let passes = pairs.iter().all(|pair| pair.passes(class));
+        Ok(Contrast { range, measured, expected, pairs, deviations, passes })
     }
 }

@@ -1,5 +1,5 @@
 //! Every length of the lent slice, every patch at the ends of the table and beyond, and every reflectance.
-use reference::contrast::STEPS;
+use reference::contrast::PAIRS;
 use reference::engine::Engine;
 use reference::record::Record;
 
@@ -24,7 +24,7 @@ fn lengths(reference: &Engine) -> bool {
     records.push((0, FAIL, job(1, 2, &[7], unfit).bytes()));
     for (number, verdict, bytes) in records {
         for places in (0..=40).chain([255, 256, 257, 65_535, 65_536, 70_000]) {
-            let (number, verdict) = if places < STEPS { (1, 0) } else { (number, verdict) };
+            let (number, verdict) = if places < PAIRS { (1, 0) } else { (number, verdict) };
             let lent = Lent::new(&mut random, &bytes, places);
             let expected = Answer::of_reference(reference, &lent);
             let agrees = expected.result.refusal == number && expected.result.verdict == verdict;
@@ -38,7 +38,7 @@ fn lengths(reference: &Engine) -> bool {
 /// The luminance at one patch of a check that passes, and what it makes of the check, 0 for a result.
 fn number_at(place: usize, luminance: u64) -> u32 {
     match luminance {
-        500 if place == STEPS => 13,
+        500 if place == PAIRS => 13,
         39_934_040 if place == 0 => 13,
         500 | 39_934_040 => 0,
         _ => 12,
@@ -52,7 +52,7 @@ fn patches(reference: &Engine) -> bool {
     let rooms: [(u64, &[u64], u64); 4] = [(0, &[], 0), (0, &[150, 250], 400), (1, &[150, 250], 0), (1, &[2_000; 8], 0)];
     for (meter, lamps, added) in rooms {
         let fit = expected(&reference.gsdf, 20_000, 80_000);
-        for place in 0..=STEPS {
+        for place in 0..=PAIRS {
             for luminance in [added, 499, 500, 39_934_040, 39_934_041, 4_294_967_295 + added] {
                 for class in [1, 2] {
                     let mut luminances = fit.clone();
@@ -65,7 +65,7 @@ fn patches(reference: &Engine) -> bool {
     }
     // A is 16,000,000, so that the sums of the second and the third are 2^32 and 2^32 + 500.
     let fit = expected(&reference.gsdf, reference.gsdf.index(16_100_000), 102_300);
-    for place in 0..=STEPS {
+    for place in 0..=PAIRS {
         for (reading, number) in [(23_934_041, 12), (4_278_967_296, 12), (4_278_967_796, 12), (4_294_967_295, 12)] {
             let mut record = bright(without(16_000_000, &fit));
             record.check[place] = reading;
@@ -73,7 +73,7 @@ fn patches(reference: &Engine) -> bool {
         }
         let mut record = bright(without(16_000_000, &fit));
         record.check[place] = 0;
-        one(&mut all, &mut random, reference, &record, if place == STEPS { 13 } else { 0 });
+        one(&mut all, &mut random, reference, &record, if place == PAIRS { 13 } else { 0 });
     }
     all.ended(4 * 18 * 6 * 2 + 18 * 5)
 }
@@ -101,7 +101,7 @@ fn reflectances(reference: &Engine) -> bool {
             let mut record = job(meter, 2, &[1_997, 3, 999], readings.clone());
             record.settings[3] = reflectance;
             record.luminances[1] = 36_935_040;
-            let lent = Lent::new(&mut random, &record.bytes(), STEPS);
+            let lent = Lent::new(&mut random, &record.bytes(), PAIRS);
             let mut expected = Answer::of_reference(reference, &lent);
             let deviations = expected.lent.slice().to_vec();
             let agrees = match meter {

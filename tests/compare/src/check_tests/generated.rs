@@ -1,5 +1,5 @@
 //! Jobs drawn from a seed, and what there was among them.
-use reference::contrast::{Contrast, Step, STEPS};
+use reference::contrast::{Contrast, Pair, PAIRS};
 use reference::curve;
 use reference::engine::{Engine, Sound};
 use reference::gsdf::Gsdf;
@@ -11,8 +11,9 @@ use crate::lent::Answers;
 use crate::random::Random;
 use crate::tally::Tally;
 
-/// How often each thing has to be seen at least, where there are as many jobs as the gate's or more; and each answer that is the check's own.
+/// How often each thing has to be seen at least, where there are as many jobs as the gate's or more; each pair far off alone; and each answer that is the check's own.
 const LEAST: u64 = 50;
+const LEAST_ALONE: u64 = 100;
 const LEAST_OWN: u64 = 200;
 const LENGTHS: [usize; 6] = [0, 16, 17, 18, 40, 65_536];
 
@@ -24,10 +25,10 @@ const PROPERTIES: [(&str, Property); 27] = [
     ("primary, fail", |job, check| job.record.class() == 1 && !check.passes),
     ("secondary, pass", |job, check| job.record.class() == 2 && check.passes),
     ("secondary, fail", |job, check| job.record.class() == 2 && !check.passes),
-    ("primary, fail and a secondary would pass", |_, check| !check.passes && check.steps.iter().all(|step| step.passes(2))),
-    ("fail by the first step alone", |job, check| fails_alone(job, check, 0)),
-    ("by one between", |job, check| (1..STEPS - 1).any(|step| fails_alone(job, check, step))),
-    ("by the last alone", |job, check| fails_alone(job, check, STEPS - 1)),
+    ("primary, fail and a secondary would pass", |_, check| !check.passes && check.pairs.iter().all(|pair| pair.passes(2))),
+    ("fail by the first pair alone", |job, check| fails_alone(job, check, 0)),
+    ("by one between", |job, check| (1..PAIRS - 1).any(|pair| fails_alone(job, check, pair))),
+    ("by the last alone", |job, check| fails_alone(job, check, PAIRS - 1)),
     ("primary, fail by 100", |job, check| fails_by(job, check, 1, 100)),
     ("by −101", |job, check| fails_by(job, check, 1, -101)),
     ("secondary, fail by 200", |job, check| fails_by(job, check, 2, 200)),
@@ -49,14 +50,25 @@ const PROPERTIES: [(&str, Property); 27] = [
     ("1,024 readings", |job, _| job.record.ddls.len() == 1_024),
 ];
 
-fn fails_alone(job: &Sound, check: &Contrast, step: usize) -> bool {
-    (0..STEPS).all(|i| check.steps[i].passes(job.record.class()) == (i != step))
+fn fails_alone(job: &Sound, check: &Contrast, pair: usize) -> bool {
+    (0..PAIRS).all(|i| check.pairs[i].passes(job.record.class()) == (i != pair))
 }
 
-/// Whether a step of this class fails by a deviation that is the limit when it is rounded toward zero.
+type FarOff = fn(&Pair) -> bool;
+
+/// What the only pair that fails can have.
+const ALONE: [(&str, FarOff); 5] = [
+    ("fails alone by an equal pair", |pair| pair.x == 0),
+    ("by a fall", |pair| pair.x < 0),
+    ("by over 300", |pair| 300 < pair.deviation()),
+    ("by over 500", |pair| 500 < pair.deviation()),
+    ("by over 1,000", |pair| 1_000 < pair.deviation()),
+];
+
+/// Whether a pair of this class fails by a deviation that is the limit when it is rounded toward zero.
 fn fails_by(job: &Sound, check: &Contrast, class: u64, deviation: i128) -> bool {
-    let fails = |step: &Step| step.deviation() == deviation && !step.passes(class);
-    job.record.class() == class && check.steps.iter().any(fails)
+    let fails = |pair: &Pair| pair.deviation() == deviation && !pair.passes(class);
+    job.record.class() == class && check.pairs.iter().any(fails)
 }
 
 type NearMiss = fn(&Gsdf, u32, &[u64]) -> bool;
@@ -65,7 +77,7 @@ type NearMiss = fn(&Gsdf, u32, &[u64]) -> bool;
 const NEAR_MISSES: [(&str, NearMiss); 9] = [
     ("first patch outside", |gsdf, _, patches| outside(gsdf, patches[0])),
     ("only one between", |gsdf, _, patches| patches.iter().filter(|&&v| outside(gsdf, v)).count() == 1 && !ends_outside(gsdf, patches)),
-    ("last patch outside", |gsdf, _, patches| outside(gsdf, patches[STEPS])),
+    ("last patch outside", |gsdf, _, patches| outside(gsdf, patches[PAIRS])),
     ("a patch of 499", |_, _, patches| patches.contains(&499)),
     ("of 39,934,041", |_, _, patches| patches.contains(&39_934_041)),
     ("beyond 32 bits", |_, _, patches| patches.iter().any(|&v| 1 << 32 <= v)),
@@ -79,12 +91,12 @@ fn outside(gsdf: &Gsdf, luminance: u64) -> bool {
 }
 
 fn ends_outside(gsdf: &Gsdf, patches: &[u64]) -> bool {
-    outside(gsdf, patches[0]) || outside(gsdf, patches[STEPS])
+    outside(gsdf, patches[0]) || outside(gsdf, patches[PAIRS])
 }
 
 /// Nc of ends in the table.
 fn range(gsdf: &Gsdf, patches: &[u64]) -> i64 {
-    gsdf.index(patches[STEPS]) as i64 - gsdf.index(patches[0]) as i64
+    gsdf.index(patches[PAIRS]) as i64 - gsdf.index(patches[0]) as i64
 }
 
 /// v(0) to v(17) of a sound record.
@@ -102,6 +114,7 @@ struct Seen {
     addresses: Tally,
     shapes: Tally,
     properties: Tally,
+    alone: Tally,
     near_misses: Tally,
 }
 
@@ -114,6 +127,7 @@ impl Seen {
             addresses: Tally::new("check: address of the first place, modulo 8", [0, 4]),
             shapes: Tally::new("check: shapes of panels with a check", SHAPES.map(|shape| format!("{shape:?}"))),
             properties: Tally::new("check: among checks that were made", PROPERTIES.map(|(name, _)| name)),
+            alone: Tally::new("check: among checks that fail by one pair", ALONE.map(|(name, _)| name)),
             near_misses: Tally::new("check: among checks that were refused", NEAR_MISSES.map(|(name, _)| name)),
         }
     }
@@ -133,6 +147,13 @@ impl Seen {
                 self.properties.add(place);
             }
         }
+        for pair in (0..PAIRS).filter(|&pair| fails_alone(job, check, pair)) {
+            for (place, (_, holds)) in ALONE.iter().enumerate() {
+                if holds(&check.pairs[pair]) {
+                    self.alone.add(place);
+                }
+            }
+        }
     }
 
     fn refused(&mut self, gsdf: &Gsdf, number: u32, patches: &[u64]) {
@@ -145,7 +166,7 @@ impl Seen {
 
     fn ended(self, all: bool) -> Vec<bool> {
         let least = |least| if all { least } else { 0 };
-        let mut results = vec![self.answers.ended(least(LEAST_OWN))];
+        let mut results = vec![self.answers.ended(least(LEAST_OWN)), self.alone.ended(least(LEAST_ALONE))];
         let tallies = [self.refusals, self.lengths, self.addresses, self.shapes, self.properties, self.near_misses];
         results.extend(tallies.into_iter().map(|tally| tally.ended(least(LEAST))));
         results

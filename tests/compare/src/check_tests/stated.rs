@@ -1,8 +1,9 @@
 //! What document 01 says of single checks outright, or by its table and a few sums.
-use reference::contrast::{Step, STEPS};
+use reference::contrast::{Pair, PAIRS};
 use reference::engine::Engine;
 use reference::gsdf::Gsdf;
 use reference::record::Record;
+use reference::target::Range;
 
 use super::{expected, job, without, Answer, Lent, FAIL, NOT_MEASURED, PASS};
 use crate::comparison::Comparison;
@@ -16,21 +17,28 @@ use crate::record_tests::order::example_records;
 enum Fact {
     Number(u32),
     Verdict(u32),
-    /// The deviation of a step.
+    /// The deviation of a pair.
     Deviation(usize, i32),
-    /// The deviation of so many steps from the first on.
+    /// The deviation of so many pairs from the first on.
     First(usize, i32),
+    /// The deviation of a pair that is beyond the limits of both classes; all others are within both.
+    Alone(usize, i32),
 }
 
-use Fact::{Deviation, First, Number, Verdict};
+use Fact::{Alone, Deviation, First, Number, Verdict};
 
 impl Fact {
     fn holds(&self, answer: &mut Answer) -> bool {
         match *self {
             Number(number) => answer.result.refusal == number,
             Verdict(verdict) => answer.result.refusal == 0 && answer.result.verdict == verdict,
-            Deviation(step, deviation) => answer.lent.slice()[step] == deviation,
-            First(steps, deviation) => answer.lent.slice()[..steps].iter().all(|&other| other == deviation),
+            Deviation(pair, deviation) => answer.lent.slice()[pair] == deviation,
+            First(pairs, deviation) => answer.lent.slice()[..pairs].iter().all(|&other| other == deviation),
+            Alone(pair, deviation) => {
+                let deviations = &answer.lent.slice()[..PAIRS];
+                let others_pass = (0..PAIRS).all(|i| i == pair || (-100..100).contains(&deviations[i]));
+                deviations[pair] == deviation && !(-200..=200).contains(&deviation) && others_pass
+            }
         }
     }
 }
@@ -39,7 +47,7 @@ impl Fact {
 type Example = (String, Vec<u8>, usize, Vec<Fact>);
 
 fn example(name: &str, record: Record, facts: &[Fact]) -> Example {
-    (name.to_string(), record.bytes(), STEPS, facts.to_vec())
+    (name.to_string(), record.bytes(), PAIRS, facts.to_vec())
 }
 
 /// The examples of the refusal table; that of 11 is sound for this operation.
@@ -51,7 +59,7 @@ fn refusal_table() -> Vec<Example> {
             number => Number(number),
         };
         examples.push((format!("{name}, 16 places"), bytes.clone(), 16, vec![Number(1)]));
-        examples.push((name.to_string(), bytes, STEPS, vec![fact]));
+        examples.push((name.to_string(), bytes, PAIRS, vec![fact]));
     }
     examples
 }
@@ -59,14 +67,14 @@ fn refusal_table() -> Vec<Example> {
 /// The marked examples, of the reference alone: no record has such patches.
 fn marked_examples() -> bool {
     let mut all = Comparison::new("check: marked examples, reference");
-    let mut step = |[p, s, c, h]: [u64; 4], deviation: i128, primary: bool, secondary: bool| {
-        let step = Step::new(p, s, c, h);
-        let holds = step.deviation() == deviation && step.passes(1) == primary && step.passes(2) == secondary;
-        all.count((!holds).then(|| format!("{p} to {s}, expected {c} to {h}: {}", step.deviation())));
+    let mut pair = |[p, s, c, h]: [u64; 4], deviation: i128, primary: bool, secondary: bool| {
+        let pair = Pair::new(p, s, c, h);
+        let holds = pair.deviation() == deviation && pair.passes(1) == primary && pair.passes(2) == secondary;
+        all.count((!holds).then(|| format!("{p} to {s}, expected {c} to {h}: {}", pair.deviation())));
     };
-    step([9, 31, 1, 3], 100, true, true);
-    step([900, 3_101, 1, 3], 100, false, true);
-    step([11_000, 10_999, 10_123, 10_370], -1_004, false, false);
+    pair([9, 31, 1, 3], 100, true, true);
+    pair([900, 3_101, 1, 3], 100, false, true);
+    pair([11_000, 10_999, 10_123, 10_370], -1_004, false, false);
     all.ended(3)
 }
 
@@ -82,7 +90,7 @@ fn deviations(gsdf: &Gsdf) -> Vec<Example> {
     let mut examples = vec![];
     for class in [1, 2] {
         let fit = job(0, class, &[], expected(gsdf, 20_000, 80_000));
-        examples.push(example("as expected", fit, &[Verdict(PASS), First(STEPS, 0)]));
+        examples.push(example("as expected", fit, &[Verdict(PASS), First(PAIRS, 0)]));
         let flat = |first: u64, last: u64| {
             let mut luminances = vec![first; 18];
             luminances[17] = last;
@@ -90,15 +98,15 @@ fn deviations(gsdf: &Gsdf) -> Vec<Example> {
         };
         examples.push(example("equal patches", flat(500, 39_934_040), &[Verdict(FAIL), First(16, -1_000)]));
         examples.push(example("equal patches", flat(10_000, 2_560_000), &[Verdict(FAIL), First(16, -1_000)]));
-        for step in 0..STEPS - 1 {
-            let next = step + 1;
-            let equal = changed(gsdf, next, |luminances| luminances[step]);
-            examples.push(example("equal neighbours", job(0, class, &[], equal), &[Verdict(FAIL), Deviation(step, -1_000)]));
+        for pair in 0..PAIRS - 1 {
+            let next = pair + 1;
+            let equal = changed(gsdf, next, |luminances| luminances[pair]);
+            examples.push(example("equal neighbours", job(0, class, &[], equal), &[Verdict(FAIL), Deviation(pair, -1_000)]));
             let less = changed(gsdf, next, |luminances| luminances[next] - 1);
-            let facts = [Verdict(PASS), Deviation(step, -1), Deviation(next, 0)];
+            let facts = [Verdict(PASS), Deviation(pair, -1), Deviation(next, 0)];
             examples.push(example("a unit less", job(0, class, &[], less), &facts));
             let more = changed(gsdf, next, |luminances| luminances[next] + 1);
-            let facts = [Verdict(PASS), Deviation(step, 0), Deviation(next, -1)];
+            let facts = [Verdict(PASS), Deviation(pair, 0), Deviation(next, -1)];
             examples.push(example("a unit more", job(0, class, &[], more), &facts));
         }
     }
@@ -108,7 +116,7 @@ fn deviations(gsdf: &Gsdf) -> Vec<Example> {
 /// The same panel by both meters: 2,400 units of room light are added for the contact meter and for no other.
 fn meters(gsdf: &Gsdf) -> Vec<Example> {
     let fit = expected(gsdf, 20_000, 80_000);
-    let as_expected = [Verdict(PASS), First(STEPS, 0)];
+    let as_expected = [Verdict(PASS), First(PAIRS, 0)];
     let mut examples = vec![];
     for class in [1, 2] {
         let panel = |meter, lamps: &[u64], readings: &[u64]| job(meter, class, lamps, readings.to_vec());
@@ -132,7 +140,7 @@ fn least_range(gsdf: &Gsdf) -> Vec<Example> {
     let narrow = |first, last| {
         let mut luminances = expected(gsdf, 102, 10_102);
         luminances[0] = first;
-        luminances[STEPS] = last;
+        luminances[PAIRS] = last;
         job(1, 1, &[40], luminances)
     };
     for (first, last, fact) in [
@@ -168,8 +176,8 @@ fn large_sums(gsdf: &Gsdf) -> Vec<Example> {
     let wrapping: Vec<u64> = expected(gsdf, 20_000, 80_000).iter().map(|luminance| 4_278_967_296 + luminance).collect();
     let fit = expected(gsdf, 90_000, 102_300);
     vec![
-        example("brightest room", bright(0, without(16_000_000, &fit)), &[Verdict(PASS), First(STEPS, 0)]),
-        example("brightest room, telescopic", bright(1, fit.clone()), &[Verdict(PASS), First(STEPS, 0)]),
+        example("brightest room", bright(0, without(16_000_000, &fit)), &[Verdict(PASS), First(PAIRS, 0)]),
+        example("brightest room, telescopic", bright(1, fit.clone()), &[Verdict(PASS), First(PAIRS, 0)]),
         example("a check in 32 bits", bright(0, wrapping.clone()), &[Number(12)]),
         example("the same, telescopic", bright(1, wrapping), &[Number(12)]),
         example("largest readings", bright(0, vec![4_294_967_295; 18]), &[Number(12)]),
@@ -183,13 +191,70 @@ fn extremes(gsdf: &Gsdf) -> Vec<Example> {
     for (jlo, jhi) in [(92_300, 102_300), (102, 102_300), (102, 10_102), (50_000, 60_000)] {
         for dark in 0..2 {
             let mut luminances = expected(gsdf, jlo, jhi);
-            for (place, luminance) in luminances.iter_mut().enumerate().take(STEPS).skip(1) {
+            for (place, luminance) in luminances.iter_mut().enumerate().take(PAIRS).skip(1) {
                 *luminance = if place % 2 == dark { 500 } else { 39_934_040 };
             }
             for class in [1, 2] {
                 examples.push(example("extremes", job(1, class, &[], luminances.clone()), &[Verdict(FAIL)]));
             }
         }
+    }
+    examples
+}
+
+/// 17 patches at even distances of the index, with the one at this place twice, the second time less by so many units.
+fn with_low_pair(gsdf: &Gsdf, jlo: u64, jhi: u64, pair: usize, fall: u64) -> Vec<u64> {
+    let mut luminances = Range { jlo, jhi }.targets(gsdf, 16);
+    luminances.insert(pair + 1, luminances[pair] - fall);
+    luminances
+}
+
+/// All pairs but one are so many hundredths of what they should be, by the index; that one has the rest.
+fn with_high_pair(gsdf: &Gsdf, jlo: u64, jhi: u64, pair: usize, hundredths: u64) -> Vec<u64> {
+    let distance = |pairs: usize| (jhi - jlo) * pairs as u64 * hundredths / 1_700;
+    let index = |patch: usize| if patch <= pair { jlo + distance(patch) } else { jhi - distance(PAIRS - patch) };
+    (0..=PAIRS).map(|patch| gsdf.luminance(index(patch))).collect()
+}
+
+/// The deviations of a high pair by its place: with 94 hundredths from 40,000 on, and with 91 from 80,000 on.
+const HIGH: [i32; PAIRS] = [892, 902, 910, 917, 922, 926, 929, 931, 933, 934, 935, 935, 935, 936, 935, 935, 934];
+const HIGHER: [i32; PAIRS] =
+    [1_431, 1_430, 1_431, 1_431, 1_434, 1_432, 1_432, 1_433, 1_435, 1_433, 1_432, 1_433, 1_435, 1_432, 1_433, 1_433, 1_432];
+
+/// One pair fails and no other.
+fn alone(gsdf: &Gsdf) -> Vec<Example> {
+    let mut checks = vec![
+        (8, "equal", with_low_pair(gsdf, 20_000, 80_000, 8, 0), -1_000),
+        (8, "falling", with_low_pair(gsdf, 20_000, 80_000, 8, 1), -1_001),
+        (8, "high", with_high_pair(gsdf, 20_000, 80_000, 8, 94), 930),
+    ];
+    for pair in 0..PAIRS {
+        checks.push((pair, "equal", with_low_pair(gsdf, 40_000, 102_300, pair, 0), -1_000));
+        checks.push((pair, "falling", with_low_pair(gsdf, 40_000, 102_300, pair, 1), -1_001));
+        checks.push((pair, "high", with_high_pair(gsdf, 40_000, 102_300, pair, 94), HIGH[pair]));
+        checks.push((pair, "higher", with_high_pair(gsdf, 80_000, 102_300, pair, 91), HIGHER[pair]));
+    }
+    let mut examples = vec![];
+    for (pair, kind, luminances, deviation) in checks {
+        for (meter, class, added) in [(0, 1, 2_400), (0, 2, 2_400), (1, 1, 0), (1, 2, 0)] {
+            let record = job(meter, class, &[2_000, 0, 400], without(added, &luminances));
+            examples.push(example(&format!("pair {pair} {kind}"), record, &[Verdict(FAIL), Alone(pair, deviation)]));
+        }
+    }
+    examples
+}
+
+/// A check that passes, one that fails and none, and each with many zero bytes after it.
+fn bytes_after(gsdf: &Gsdf) -> Vec<Example> {
+    let fit = expected(gsdf, 20_000, 80_000);
+    let unfit = with_low_pair(gsdf, 20_000, 80_000, 8, 0);
+    let mut examples = vec![];
+    for (check, verdict) in [(fit, PASS), (unfit, FAIL), (vec![], NOT_MEASURED)] {
+        let record = job(1, 1, &[40], check);
+        for bytes in [20_000, 65_536, 1_048_576] {
+            examples.push((format!("{bytes} bytes more"), [record.bytes(), vec![0; bytes]].concat(), PAIRS, vec![Number(4)]));
+        }
+        examples.push(example("no byte more", record, &[Verdict(verdict)]));
     }
     examples
 }
@@ -217,10 +282,10 @@ fn nearest_examples(reference: &Engine) -> bool {
     let mut all = Answers::new("check: examples of the nearest table");
     let reflectances = (0..=1_000).map(|reflectance| nearest_tests::every::job(reflectance).bytes());
     for bytes in nearest_tests::stated::records().into_iter().chain(reflectances) {
-        let lent = Lent::new(&mut random, &bytes, STEPS);
+        let lent = Lent::new(&mut random, &bytes, PAIRS);
         all.count(&lent, Answer::of_engine(&lent).difference(&Answer::of_reference(reference, &lent)));
     }
-    all.ended(14 + 11 + 35 + 5 + 3 + 13 + 20 + 1_001)
+    all.ended(14 + 11 + 35 + 5 + 3 + 13 + 20 + 8 + 1_001)
 }
 
 pub fn results(reference: &Engine) -> Vec<bool> {
@@ -233,6 +298,8 @@ pub fn results(reference: &Engine) -> Vec<bool> {
         compare(reference, "check: least range", least_range(gsdf), 3 * 13),
         compare(reference, "check: large sums", large_sums(gsdf), 6 + 2 * 8),
         compare(reference, "check: extremes", extremes(gsdf), 3 * 16),
+        compare(reference, "check: one pair fails alone", alone(gsdf), (3 + 17 * 4) * 4 * 5),
+        compare(reference, "check: bytes after the record", bytes_after(gsdf), 3 * 4 * 3),
         nearest_examples(reference),
     ]
 }

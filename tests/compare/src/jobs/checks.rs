@@ -1,14 +1,14 @@
 //! The readings of a check: of panels that follow the display function, of others, and such that no check can be made of them.
-use reference::contrast::STEPS;
+use reference::contrast::PAIRS;
 use reference::gsdf::{Gsdf, LAST_INDEX};
 use reference::record::Record;
 use reference::target::Range;
 
 use super::ends::{self, Ends, LARGEST_READING, LEAST_RANGE};
-use super::limits::AtLimit;
+use super::limits::{Off, OnePair};
 use crate::random::Random;
 
-const PATCHES: usize = STEPS + 1;
+const PATCHES: usize = PAIRS + 1;
 
 /// The indices of the first and the last patch, far enough apart: those of the panel where they are, or others.
 fn outer(random: &mut Random, gsdf: &Gsdf, record: &Record, ends: &Ends) -> Range {
@@ -26,38 +26,51 @@ fn following(random: &mut Random, gsdf: &Gsdf, outer: Range) -> Vec<u64> {
         0 => luminance,
         _ => luminance - luminance / share + random.below(2 * (luminance / share) + 2),
     };
-    outer.targets(gsdf, STEPS as u64).into_iter().map(|luminance| off(random, luminance)).collect()
+    outer.targets(gsdf, PAIRS as u64).into_iter().map(|luminance| off(random, luminance)).collect()
 }
 
-/// A step at the limit of the class or of the other one, or a unit further; what is expected, where the ends leave no such step.
+/// Any pair, and often the first or the last.
+fn any_pair(random: &mut Random) -> usize {
+    let any = random.place(PAIRS);
+    random.one_of(&[0, PAIRS - 1, any, any])
+}
+
+/// A pair at the limit of the class or of the other one, or a unit further; what is expected, where the ends leave no such pair.
 fn at_limit(random: &mut Random, gsdf: &Gsdf, record: &Record, ends: &Ends, outer: Range) -> Vec<u64> {
-    let any_step = random.place(STEPS);
-    let step = random.one_of(&[0, STEPS - 1, any_step, any_step]);
-    let limit = AtLimit { step, high: random.below(2) == 0, exact: false };
+    let pair = any_pair(random);
+    let high = random.below(2) == 0;
+    let limit = OnePair { pair, off: Off::Limit { high } };
     let class = random.one_of(&[record.class(), record.class(), 1, 2]);
     let mut luminances = match limit.draw(random, gsdf, class, ends.added, outer) {
         Some(luminances) => luminances,
         None => return following(random, gsdf, outer),
     };
     if random.below(2) == 0 {
-        limit.exceed(&mut luminances);
+        limit.exceed(high, &mut luminances);
     }
     luminances
+}
+
+/// One pair far off, and no other beyond the limit; what is expected, where the ends leave no such pair.
+fn alone(random: &mut Random, gsdf: &Gsdf, record: &Record, ends: &Ends, outer: Range) -> Vec<u64> {
+    let high = Off::High(random.one_of(&[301, 501, 1_001]));
+    let pair = OnePair { pair: any_pair(random), off: random.one_of(&[Off::Equal, Off::Fall, high]) };
+    pair.draw(random, gsdf, record.class(), ends.added, outer).unwrap_or_else(|| following(random, gsdf, outer))
 }
 
 /// A panel that nobody calibrated.
 fn power(random: &mut Random, gsdf: &Gsdf, outer: Range) -> Vec<u64> {
     let exponent = 0.5 + 3.0 * random.share();
     let (first, last) = (gsdf.luminance(outer.jlo), gsdf.luminance(outer.jhi));
-    let rise = |i: usize| (last - first) as f64 * (i as f64 / STEPS as f64).powf(exponent);
+    let rise = |i: usize| (last - first) as f64 * (i as f64 / PAIRS as f64).powf(exponent);
     (0..PATCHES).map(|i| first + rise(i) as u64).collect()
 }
 
 /// Between ends that are kept: anything, the ends of the table, or the same again.
 fn scattered(random: &mut Random, gsdf: &Gsdf, outer: Range) -> Vec<u64> {
     let kinds = random.between(1, 3);
-    let mut luminances = outer.targets(gsdf, STEPS as u64);
-    for i in 1..STEPS {
+    let mut luminances = outer.targets(gsdf, PAIRS as u64);
+    for i in 1..PAIRS {
         luminances[i] = match random.below(kinds) {
             0 => random.one_of(&[gsdf.darkest(), gsdf.brightest()]),
             1 => random.between(gsdf.darkest(), gsdf.brightest()),
@@ -77,14 +90,14 @@ fn range_at_limit(random: &mut Random, gsdf: &Gsdf, outer: Range, luminances: &m
     };
     let (first, last) = random.one_of(&[(low, low + apart), (low, low + apart), (low + apart, low)]);
     luminances[0] = gsdf.luminance(first);
-    luminances[STEPS] = gsdf.luminance(last);
+    luminances[PAIRS] = gsdf.luminance(last);
 }
 
 /// One reading outside the table, by a unit or by far, also such that a sum of 32 bits comes back into it.
 fn outside(random: &mut Random, gsdf: &Gsdf, added: u64, readings: &mut [u64]) {
     let (darkest, brightest) = (gsdf.darkest(), gsdf.brightest());
     let any_place = random.place(PATCHES);
-    let place = random.one_of(&[0, STEPS, any_place]);
+    let place = random.one_of(&[0, PAIRS, any_place]);
     readings[place] = match random.below(6) {
         0 if added < darkest => darkest - 1 - added,
         1 if added < darkest => random.below(darkest - added),
@@ -98,12 +111,13 @@ fn outside(random: &mut Random, gsdf: &Gsdf, added: u64, readings: &mut [u64]) {
 /// No readings, or 18, for a record that has all the rest.
 pub fn draw(random: &mut Random, gsdf: &Gsdf, record: &Record, ends: &Ends) -> Vec<u64> {
     let outer = outer(random, gsdf, record, ends);
-    let mut luminances = match random.below(16) {
+    let mut luminances = match random.below(18) {
         0..=3 => return vec![],
         4 => return (0..PATCHES).map(|_| random.luminance()).collect(),
         5..=8 => at_limit(random, gsdf, record, ends, outer),
-        9 => power(random, gsdf, outer),
-        10 | 11 => scattered(random, gsdf, outer),
+        9 | 10 => alone(random, gsdf, record, ends, outer),
+        11 => power(random, gsdf, outer),
+        12 | 13 => scattered(random, gsdf, outer),
         _ => following(random, gsdf, outer),
     };
     if random.below(8) == 0 {

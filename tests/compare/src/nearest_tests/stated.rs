@@ -174,6 +174,19 @@ fn large_room_marks() -> Vec<Example> {
     examples
 }
 
+/// A sound job without a check and with one, and each with many zero bytes after it.
+fn bytes_after() -> Vec<Example> {
+    let mut examples = vec![];
+    for check in [vec![], vec![10_000; 18]] {
+        let record = Record { check, ..job(0, 60, &[40], &[(0, 10_000), (255, 2_560_000)]) };
+        for bytes in [20_000, 65_536, 1_048_576] {
+            examples.push((format!("{bytes} bytes more"), [record.bytes(), vec![0; bytes]].concat(), ENTRIES, vec![Number(4)]));
+        }
+        examples.push(example("no byte more", record, &[Number(0), Jlo(8_072)]));
+    }
+    examples
+}
+
 /// Each fact of engine and reference, and the engine's whole answer against the reference's.
 fn compare(reference: &Engine, name: &'static str, examples: Vec<Example>, expected: u64) -> bool {
     let mut random = Random::new(3);
@@ -193,13 +206,15 @@ fn compare(reference: &Engine, name: &'static str, examples: Vec<Example>, expec
 
 /// The records of all examples.
 pub fn records() -> Vec<Vec<u8>> {
-    let groups = [refusal_table(), marked_examples(), ends_of_table(), large_sums(), least_range(), room_marks(), large_room_marks()];
-    groups.into_iter().flatten().map(|(_, bytes, _, _)| bytes).collect()
+    let panels = [marked_examples(), ends_of_table(), large_sums(), least_range(), room_marks(), large_room_marks()];
+    let groups = [refusal_table(), bytes_after()].into_iter().chain(panels);
+    groups.flatten().map(|(_, bytes, _, _)| bytes).collect()
 }
 
 pub fn results(reference: &Engine) -> Vec<bool> {
     vec![
         compare(reference, "nearest: refusal table", refusal_table(), 2 * 16 + 14),
+        compare(reference, "nearest: bytes after the record", bytes_after(), 2 * 10 + 8),
         compare(reference, "nearest: marked examples", marked_examples(), 2 * 26 + 11),
         compare(reference, "nearest: ends of the table", ends_of_table(), 2 * 50 + 35),
         compare(reference, "nearest: large sums", large_sums(), 2 * 7 + 5),
