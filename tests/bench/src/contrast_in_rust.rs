@@ -5,7 +5,7 @@ use compare::yepidlaw::Check;
 use crate::gsdf_in_rust::{index, luminance, TableB1};
 use crate::record_in_rust;
 
-const STEPS: usize = 17;
+const PAIRS: usize = 17;
 const PATCHES: usize = 18;
 const DARKEST: u64 = 500;
 const BRIGHTEST: u64 = 39_934_040;
@@ -44,7 +44,7 @@ fn patches(values: &RecordValues, added: u32) -> Option<[u32; PATCHES]> {
     Some(patches)
 }
 
-/// One walk over the steps; whether all are within one part in `parts`.
+/// One walk over the pairs; whether all are within one part in `parts`.
 fn fill(table_b1: &TableB1, patches: &[u32; PATCHES], first: u32, range: u32, parts: i64, deviations: &mut [i32]) -> bool {
     let mut p = i64::from(patches[0]);
     let mut c = i64::from(luminance(table_b1, first));
@@ -64,7 +64,7 @@ fn fill(table_b1: &TableB1, patches: &[u32; PATCHES], first: u32, range: u32, pa
 
 #[inline(never)]
 pub fn check(table_b1: &TableB1, bytes: &[u8], deviations: &mut [i32]) -> Check {
-    if deviations.len() < STEPS {
+    if deviations.len() < PAIRS {
         return refused(1);
     }
     let values = record_in_rust::read(bytes);
@@ -84,11 +84,11 @@ pub fn check(table_b1: &TableB1, bytes: &[u8], deviations: &mut [i32]) -> Check 
         None => return refused(12),
     };
     let first = index(table_b1, patches[0]);
-    let last = index(table_b1, patches[STEPS]);
+    let last = index(table_b1, patches[PAIRS]);
     if last < first + LEAST_RANGE {
         return refused(13);
     }
     let parts = if values.class == 1 { 10 } else { 5 };
-    let passes = fill(table_b1, &patches, first, last - first, parts, &mut deviations[..STEPS]);
+    let passes = fill(table_b1, &patches, first, last - first, parts, &mut deviations[..PAIRS]);
     Check { refusal: 0, verdict: if passes { 1 } else { 2 } }
 }

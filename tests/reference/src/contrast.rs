@@ -4,8 +4,6 @@ use crate::target::Range;
 
 /// How many pairs of neighbouring patches there are.
 pub const PAIRS: usize = 17;
-/// The same by another name.
-pub const STEPS: usize = PAIRS;
 const LEAST_RANGE: i128 = 10_000;
 
 /// Two neighbouring patches: X and Y.

@@ -1,5 +1,5 @@
 //! The operations on a job record: the tests in order, then the result.
-use crate::contrast::{Contrast, STEPS};
+use crate::contrast::{Contrast, PAIRS};
 use crate::curve;
 use crate::gsdf::Gsdf;
 use crate::nearest::{self, Table};
@@ -63,7 +63,7 @@ impl Engine {
 
     /// The job and its contrast check, for a lent slice of so many places, or the first of 1 to 10, 12 and 13 that it meets. A job with 0 check items has no check.
     pub fn check(&self, bytes: &[u8], places: usize) -> Result<(Sound, Option<Contrast>), u32> {
-        if places < STEPS {
+        if places < PAIRS {
             return Err(1);
         }
         let job = self.sound(bytes)?;
