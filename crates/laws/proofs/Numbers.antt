@@ -3,7 +3,7 @@
 use mathlib.Core.Path.{_≡_}
 use mathlib.Core.Logic.{⊎-elim}
 use Prim.Native.Nat.{ℕ, zero, suc, _+_, _-_, _*_, _/_, max, _≤_, _<_, zero-le}
-use native.Mathlib.Nat.{mul-suc, mul-zero, le-trans, le-div-iff-mul-le, div-mul-le-self, not-suc-le-zero, le-of-suc-le-suc, eq-or-lt-of-le}
+use native.Mathlib.Nat.{mul-suc, mul-zero, le-trans, le-antisymm, le-div-iff-mul-le, div-mul-le-self, not-suc-le-zero, le-of-suc-le-suc, eq-or-lt-of-le}
 use native.Mathlib.Numerals.{add-one}
 use native.Mathlib.Omega.{arith}
 use Rattle.laws.specs.Numbers.{maxOf}
@@ -54,3 +54,8 @@ module _ (f : ℕ → ℕ) where
   unfolding maxOf
   max-le zero b h = zero-le
   max-le (suc n) b h = omega (arith, max-le n b (λ i l. h i (omega arith)), h n (omega arith))
+
+-- equal numbers have an equal largest one
+pub max-same : (f g : ℕ → ℕ) (n : ℕ) → ((i : ℕ) → i < n → f i ≡ g i) → maxOf f n ≡ maxOf g n
+max-same f g n e =
+    le-antisymm (max-le f n _ (λ i h. rw (e i h) (max-at g n i h))) (max-le g n _ (λ i h. rw (← e i h) (max-at f n i h)))

@@ -1,7 +1,7 @@
 -- What bounded search finds.
 -- Assumes nothing.
 use Prim.Native.Nat.{ℕ, zero, suc, _+_, _-_, _≤_, _<_, zero-le, suc-le-suc}
-use mathlib.Core.Path.{_≡_, refl, sym, ap, subst, _∙_}
+use mathlib.Core.Path.{_≡_, refl, sym, ap, ap₂, subst, _∙_}
 use mathlib.Core.Bool.{Bool, true, false, _||_, _&&_, or-false, or-assoc}
 use mathlib.Core.Logic.{inl, inr, ⊎-elim}
 use native.Mathlib.Nat.{le-refl, le-of-suc-le-suc, not-suc-le-zero, eq-or-lt-of-le}
@@ -37,6 +37,12 @@ some-of p zero e k = absurd (yes-is e)
 some-of p (suc n) e k =
     by (p zero) (λ t. k zero (omega arith) t) (λ f. some-of (λ i. p (suc i)) n (simp f at e) (λ i h t. k (suc i) (suc-le-suc h) t))
 
+-- tests that agree find the same
+pub any-same : (p q : ℕ → Bool) (n : ℕ) → ((i : ℕ) → i < n → p i ≡ q i) → any p n ≡ any q n
+unfolding any
+any-same p q zero e = refl
+any-same p q (suc n) e = ap₂ _||_ (e zero (omega arith)) (any-same (λ i. p (suc i)) (λ i. q (suc i)) n (λ i h. e (suc i) (suc-le-suc h)))
+
 -- one number more
 any-suc : (p : ℕ → Bool) (n : ℕ) → any p (suc n) ≡ any p n || p n
 unfolding any
@@ -67,10 +73,25 @@ lowest-le p (suc n) zero t = chosen (λ (i : ℕ). i ≤ zero) (p zero) (λ s. z
 lowest-le p (suc n) (suc i) t =
     chosen (λ (j : ℕ). j ≤ suc i) (p zero) (λ s. zero-le) (λ s. suc-le-suc (lowest-le (λ i. p (suc i)) n i t))
 
+-- where some number passes, the lowest is below n
+pub lowest-under : (p : ℕ → Bool) (n : ℕ) → T (any p n) → lowest p n < n
+lowest-under p n t = some-of p n (is-yes (any p n) t) (λ i h e. omega (arith, lowest-le p n i (yes-is e)))
+
+-- and where the lowest is below n, it passes
+pub lowest-found : (p : ℕ → Bool) (n : ℕ) → lowest p n < n → T (p (lowest p n))
+unfolding lowest
+lowest-found p zero h = absurd (not-suc-le-zero h)
+lowest-found p (suc n) h =
+    chosen (λ (i : ℕ). i < suc n → T (p i)) (p zero) (λ s _. s) (λ s l. lowest-found (λ i. p (suc i)) n (le-of-suc-le-suc l)) h
+
 -- what a search from below ends with
 pub lowest-is : (p : ℕ → Bool) (n q : ℕ) → q < n → T (p q) → ((j : ℕ) → j < q → T (p j) → ⊥) → lowest p n ≡ q
 lowest-is p n q h t none =
     ⊎-elim (λ e. e) (λ l. absurd (none _ l (lowest-passes p n (any-intro p n q h t)))) (eq-or-lt-of-le (lowest-le p n q t))
+
+pub lowest-none : (p : ℕ → Bool) (n : ℕ) → ((j : ℕ) → j < n → T (p j) → ⊥) → lowest p n ≡ n
+lowest-none p n none =
+    ⊎-elim (λ e. e) (λ l. absurd (none _ l (lowest-found p n l))) (eq-or-lt-of-le (lowest-top p n))
 
 -- ---- every number
 

@@ -1,0 +1,10 @@
+pub mod Paths
+pub mod Runs
+pub mod Even
+pub mod Steps
+pub mod Bound
+pub mod Rows
+pub mod Filling
+pub mod Halving
+pub mod Writing
+pub mod Making

@@ -1,0 +1,6 @@
+pub mod Even
+pub mod Paths
+pub mod Table
+pub mod Runs
+pub mod Steps
+pub mod Filling
