@@ -1,0 +1,40 @@
+// The even table of any curve and targets through the C ABI, on bare numbers: for the comparison by running and for the benchmark.
+ghost use mathlib.Core.Path.{_≡_};
+ghost use Rattle.even.specs.Filling.{given, Lent};
+ghost use Rattle.even_values.specs.Values.{valuesOf, ValuesFilled};
+use even::Outcome;
+
+#[repr(C)]
+pub struct EvenValues {
+    // 1 where the table was made, 0 where there is none.
+    pub made: u32,
+    // Its worst step, or 0.
+    pub worst: u64,
+}
+
+fn values_of(outcome: Outcome) -> EvenValues
+    ensures { λ r. ⌜ r ≡ valuesOf outcome ⌝ }
+{
+    match outcome {
+        Outcome::Table(found) => EvenValues {
+            made: 1,
+            worst: found,
+        },
+        Outcome::NoTable => EvenValues { made: 0, worst: 0 },
+    }
+}
+
+#[no_mangle]
+pub extern "C" fn even_fill(
+    curve: &[u32],
+    targets: &[u32],
+    tolerance: u16,
+    table: &mut [u16],
+    work: &mut [u32],
+) -> EvenValues
+    requires { ⌜ Lent (given (now curve) (now targets) tolerance) (now table) (now work) ⌝ }
+    ensures { λ r. ⌜ ValuesFilled (given (now (curve .entry)) (now (targets .entry)) tolerance) (now (table .entry)) (now (table .exit)) (now (work .entry)) (now (work .exit)) r ⌝ }
+{
+    let outcome = even::fill_table(curve, targets, tolerance, table, work);
+    values_of(outcome)
+}
