@@ -9,18 +9,19 @@ use native.Mathlib.Numerals.{add-one}
 use native.Mathlib.Omega.{arith}
 use lib.Arith.{le-zero}
 use lib.Dec.{T}
-use lib.ListN.{length, getD}
+use mathlib.Core.List.{List}
+use lib.ListN.{length, getD, set}
 use mir.Facts.{T-not, not-T, clash}
 use Rattle.laws.specs.Search.{any}
 use Rattle.laws.specs.Numbers.{maxOf}
 use Rattle.laws.proofs.Cases.{by, is-yes}
 use Rattle.laws.proofs.Numbers.{max-next, max-same}
 use Rattle.laws.proofs.Search.{any-intro, any-none}
-use Rattle.laws.proofs.Fill.{getD-tab}
+use Rattle.laws.proofs.Fill.{getD-tab, Filled, filled-none, filled-more, filled-at}
 use Rattle.even.specs.Even.{Given, F, t, stepDeviation, deviationAt, worstStep}
 use Rattle.even.specs.Table.{allowedAt, noLevel, noTable, lowestLevels}
-use Rattle.even.specs.Runs.{brightest, runFrom, runTo, IsRun, NotAbove, NotBelow}
-use Rattle.even.specs.Filling.{Workable, firstBound}
+use Rattle.even.specs.Runs.{brightest, runFrom, runTo, IsRun, NotAbove, AreRuns}
+use Rattle.even.specs.Filling.{Workable, RunsAsk, firstBound, RunsFound}
 use Rattle.even.specs.declared.Outcome.{Outcome}
 use Rattle.even.specs.declared.Outcome.the-variants.{Table, NoTable}
 use Rattle.even.proofs.Runs.{reaching-top, is-darker, not-above, run-some, some-allowed, lowest-from, from-rises}
@@ -28,6 +29,30 @@ use Rattle.even.proofs.Runs.{reaching-top, is-darker, not-above, run-so
 no-table-is : (x : Given) → noTable x ≡ true → NoTable ≡ firstBound x
 unfolding firstBound
 no-table-is x e = rw e refl
+
+-- ---- what the bound tells
+
+table-none : {b : ℕ} → Table b ≡ NoTable → ⊥
+table-none e = let z : _≡_ {A = ℕ} 0 1 = cc in omega arith
+
+same-table : {b d : ℕ} → Table b ≡ Table d → b ≡ d
+same-table e = cc
+
+module _ (x : Given) where
+  some-bound : noTable x ≡ false → firstBound x ≡ Table (worstStep x (lowestLevels x))
+  unfolding firstBound
+  some-bound e = rw e refl
+
+  pub bound-told : {b : ℕ} → Table b ≡ firstBound x → noTable x ≡ false
+  bound-told e = by (noTable x) (λ f. absurd (table-none (e ∙ sym (no-table-is x f)))) (λ f. f)
+
+  pub bound-value : {b : ℕ} → Table b ≡ firstBound x → b ≡ worstStep x (lowestLevels x)
+  bound-value e = same-table (e ∙ some-bound (bound-told e))
+
+  pub none-told : NoTable ≡ firstBound x → noTable x ≡ true
+  none-told e = by (noTable x) (λ f. f) (λ f. absurd (table-none (sym (some-bound f) ∙ sym e)))
+
+-- ---- the walk
 
 -- p has this target and this run
 pub record At (x : Given) (p target from to : ℕ) : Type 0 where
@@ -48,13 +73,6 @@ module _ {x : Given} (ok : Workable x) where
 
   pub last-value : length (x .targets) - 1 < length (x .targets)
   last-value = omega (arith, ok .usable .some-target)
-
-  -- the run of the last P-value, from the number of levels
-  pub run-top : NotBelow (x .curve) (x .tolerance) (t x (length (x .targets) - 1)) (length (x .curve)) (length (x .curve))
-  run-top = record {
-    from-high = record { never-falls = ok .usable .curve-keeps; high = reaching-top (x .curve) _; inside = le-refl _ };
-    to-high = record { never-falls = ok .usable .curve-keeps; high = reaching-top (x .curve) _; inside = le-refl _ };
-  }
 
   module _ (p : ℕ) (l : p < length (x .targets) - 1) where
     pub next-value : p + 1 < length (x .targets)
@@ -77,8 +95,11 @@ module _ {x : Given} (ok : Workable x) where
       let none : T (noLevel x p) = not-T (any (allowedAt x p) (length (x .curve))) (λ s. clash (run-some x (ok .usable) p s) h) in
       no-table-is x (is-yes (noTable x) (any-intro (noLevel x) (length (x .targets)) p l none))
 
-  pub bound-none : {p target from to : ℕ} → At x p target from to → to ≤ from → NoTable ≡ firstBound x
+  bound-none : {p target from to : ℕ} → At x p target from to → to ≤ from → NoTable ≡ firstBound x
   bound-none a h = none-at _ (a .value) (omega (arith, a .from-is, a .to-is))
+
+  pub found-none : {p target from to : ℕ} {starts ends : List ℕ} → At x p target from to → to ≤ from → RunsFound x starts ends NoTable
+  found-none a h = record { bound-is = bound-none a h; runs = λ e. absurd (subst T (sym (none-told x (bound-none a h)) ∙ e) tt) }
 
 -- up to p each P-value has an allowed level, and the worst step of the lowest ones is known
 pub record Bounding (x : Given) (p target from to worst : ℕ) : Type 0 where
@@ -131,7 +152,7 @@ module _ {x : Given} (ok : Workable x) where
           ∙ ap (maxOf (λ q. deviationAt x q (runFrom x q) (runFrom x (suc q)))) n
           ∙ sym (b .worst-is)
 
-      pub bound-all : Table worst ≡ firstBound x
+      bound-all : Table worst ≡ firstBound x
       unfolding firstBound
       bound-all = rw (some-table, worst-of) refl
 
@@ -154,24 +175,56 @@ module _ {x : Given} (ok : Workable x) where
           ok .usable .curve-keeps .keeps _ _ (omega (arith, run .from-is, run-on ok p l (b .at) .from-low))
           (at-level (at-run ok (next-value ok p l) run) h)
 
--- ---- what the bound tells
+-- ---- the runs before p are found
 
-table-none : {b : ℕ} → Table b ≡ NoTable → ⊥
-table-none e = let z : _≡_ {A = ℕ} 0 1 = cc in omega arith
+pub record Finding (x : Given) (starts₀ ends₀ starts ends : List ℕ) (p target from to worst : ℕ) : Type 0 where
+  pub bounding : Bounding x p target from to worst
+  pub starts-are : Filled (runFrom x) starts₀ starts p
+  pub ends-are : Filled (runTo x) ends₀ ends p
 
-same-table : {b d : ℕ} → Table b ≡ Table d → b ≡ d
-same-table e = cc
+module _ {x : Given} {starts₀ ends₀ : List ℕ} (asks : RunsAsk x starts₀ ends₀) where
+  pub finding-first : {target from to : ℕ} → At x 0 target from to → from < to → Finding x starts₀ ends₀ starts₀ ends₀ 0 target from to 0
+  finding-first a h = record { bounding = bound-first (asks .workable) a h; starts-are = filled-none _ starts₀; ends-are = filled-none _ ends₀ }
 
-module _ (x : Given) where
-  some-bound : noTable x ≡ false → firstBound x ≡ Table (worstStep x (lowestLevels x))
-  unfolding firstBound
-  some-bound e = rw e refl
+  module _ {starts ends : List ℕ} {p target from to worst : ℕ} (f : Finding x starts₀ ends₀ starts ends p target from to worst) where
+    -- there is a place for the ends of the run of p, and they fit it
+    pub starts-inside : p < length starts
+    starts-inside = omega (arith, f .bounding .at .value, asks .starts-fit, f .starts-are .len)
 
-  pub bound-told : {b : ℕ} → Table b ≡ firstBound x → noTable x ≡ false
-  bound-told e = by (noTable x) (λ f. absurd (table-none (e ∙ sym (no-table-is x f)))) (λ f. f)
+    pub ends-inside : p < length ends
+    ends-inside = omega (arith, f .bounding .at .value, asks .ends-fit, f .ends-are .len)
 
-  pub bound-value : {b : ℕ} → Table b ≡ firstBound x → b ≡ worstStep x (lowestLevels x)
-  bound-value e = same-table (e ∙ some-bound (bound-told e))
+    pub from-fits : from < 65536
+    from-fits = omega (arith, bounding-level (asks .workable) (f .bounding), asks .workable .levels)
 
-  pub none-told : NoTable ≡ firstBound x → noTable x ≡ true
-  none-told e = by (noTable x) (λ f. f) (λ f. absurd (table-none (sym (some-bound f) ∙ sym e)))
+    pub to-fits : to < 65536
+    to-fits = omega (arith, f .bounding .at .to-is, reaching-top (x .curve) (brightest (x .tolerance) (t x p) + 1), asks .workable .levels)
+
+    -- the run of p written
+    starts-written : Filled (runFrom x) starts₀ (set starts p from) (p + 1)
+    starts-written = filled-more _ starts₀ starts p _ (f .starts-are) (omega (arith, f .bounding .at .value, asks .starts-fit)) (f .bounding .at .from-is)
+
+    ends-written : Filled (runTo x) ends₀ (set ends p to) (p + 1)
+    ends-written = filled-more _ ends₀ ends p _ (f .ends-are) (omega (arith, f .bounding .at .value, asks .ends-fit)) (f .bounding .at .to-is)
+
+    pub starts-kept : length (set starts p from) ≡ length starts₀
+    starts-kept = starts-written .len
+
+    pub ends-kept : length (set ends p to) ≡ length ends₀
+    ends-kept = ends-written .len
+
+    pub finding-more : {nextTarget nextFrom nextTo : ℕ} → At x (p + 1) nextTarget nextFrom nextTo → nextFrom < nextTo
+        → Finding x starts₀ ends₀ (set starts p from) (set ends p to) (p + 1) nextTarget nextFrom nextTo
+        (max worst (stepDeviation (F x nextFrom - F x from) (nextTarget - target)))
+    finding-more a h = record { bounding = bound-more (asks .workable) (f .bounding) a h; starts-are = starts-written; ends-are = ends-written }
+
+    pub found-all : length (x .targets) - 1 ≤ p → RunsFound x (set starts p from) (set ends p to) (Table worst)
+    found-all h = record {
+      bound-is = bound-all (asks .workable) (f .bounding) h;
+      runs = λ _. record {
+        starts-fit = rw starts-kept (asks .starts-fit);
+        ends-fit = rw ends-kept (asks .ends-fit);
+        starts-are = λ q l. filled-at _ starts₀ _ (p + 1) q 0 starts-written (omega arith);
+        ends-are = λ q l. filled-at _ ends₀ _ (p + 1) q 0 ends-written (omega arith);
+      };
+    }

@@ -15,13 +15,13 @@ use Rattle.laws.proofs.Search.{any-same}
 use Rattle.reach.specs.Rows.{RowAsks, RowFilled}
 use Rattle.even.specs.Even.{Given, F, t, targetStep}
 use Rattle.even.specs.Table.{allowedAt, goodAt, feasible, tablesWithin}
-use Rattle.even.specs.Runs.{brightest, runFrom, runTo, IsRun, NotBelow}
+use Rattle.even.specs.Runs.{brightest, runFrom, runTo, IsRun, RunAt}
 use Rattle.even.specs.Steps.{leastStep, mostStep, IsSpan}
 use Rattle.even.specs.Filling.{Workable, RowsGood, KeptFrom, RowsAsk, RowsFilled}
 use Rattle.even.proofs.Paths.{good-last}
-use Rattle.even.proofs.Runs.{reaching-top, not-below}
+use Rattle.even.proofs.Runs.{reaching-top, run-found}
 use Rattle.even.proofs.Even.{every-level}
-use Rattle.even.proofs.Bound.{At, at-run, run-at, last-value, rises}
+use Rattle.even.proofs.Bound.{At, at-run, last-value, rises}
 use Rattle.even.proofs.Rows.{kept-all, kept-then, kept-row, kept-less, last-good, rows-more, rows-some, row-empty}
 
 -- a filled row by equal numbers
@@ -36,11 +36,11 @@ pub record RowsSoFar (x : Given) (k : ℕ) (before words : List ℕ) (p target f
   pub kept : KeptFrom (length (x .targets) - 1) before words
   pub some : any (goodAt x k p) (length (x .curve)) ≡ true
 
-module _ {x : Given} {k : ℕ} {before : List ℕ} (asks : RowsAsk x k before) where
-  pub rows-first : {from to : ℕ} → IsRun (x .curve) (x .tolerance) (t x (length (x .targets) - 1)) from to
+module _ {x : Given} {k : ℕ} {starts ends before : List ℕ} (asks : RowsAsk x k starts ends before) where
+  pub rows-first : {from to : ℕ} → RunAt starts ends (length (x .targets) - 1) from to
       → RowsSoFar x k before before (length (x .targets) - 1) (t x (length (x .targets) - 1)) from to
-  rows-first run = record {
-    at = at-run (asks .workable) (last-value (asks .workable)) run;
+  rows-first at = record {
+    at = at-run (asks .workable) (last-value (asks .workable)) (run-found (asks .runs) (last-value (asks .workable)) at);
     good = last-good (asks .workable) k (asks .last);
     kept = kept-all _ before;
     some =
@@ -74,18 +74,16 @@ module _ {x : Given} {k : ℕ} {before : List ℕ} (asks : RowsAsk x k before) w
           index : (q : ℕ) → suc q ≡ p → q + 1 ≡ p
           index q e = omega arith
 
-      pub lower-run : NotBelow (x .curve) (x .tolerance) (t x (p - 1)) from to
-      lower-run =
-          not-below (x .curve) (x .tolerance) (t x (p - 1)) (t x p) from to (asks .workable .usable .curve-keeps) (asks .workable .usable .tolerance-high)
-          (le-of-lt (subst (λ (y : ℕ). t x (p - 1) < y) (s .at .target-is) lower-rises)) (run-at (asks .workable) (s .at))
-
       pub lower-step : target - t x (p - 1) < 2 ^ 26
       lower-step = omega (arith, s .at .target-is, asks .workable .targets-small p (s .at .value))
 
       step-is : target - t x (p - 1) ≡ targetStep x (p - 1)
       step-is = ap (λ (y : ℕ). y - t x (p - 1)) (s .at .target-is ∙ ap (t x) (sym lower-is))
 
-      module _ {lowFrom lowTo least most : ℕ} (run : IsRun (x .curve) (x .tolerance) (t x (p - 1)) lowFrom lowTo) (span : IsSpan k (target - t x (p - 1)) least most) where
+      module _ {lowFrom lowTo least most : ℕ} (found : RunAt starts ends (p - 1) lowFrom lowTo) (span : IsSpan k (target - t x (p - 1)) least most) where
+        run : IsRun (x .curve) (x .tolerance) (t x (p - 1)) lowFrom lowTo
+        run = run-found (asks .runs) lower-value found
+
         pub row-asks : RowAsks (x .curve) words (p - 1) lowTo to least most
         row-asks = record {
           few = omega (arith, s .at .value, asks .workable .values);

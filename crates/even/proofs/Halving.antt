@@ -36,7 +36,7 @@ pub record Halving (x : Given) (before words : List ℕ) (low high : ℕ) (ready
   pub kept : KeptFrom (length (x .targets) - 1) before words
   pub rows : ready ≡ true → RowsGood x words high 0
 
-module _ {x : Given} {bound : ℕ} {before : List ℕ} (asks : SearchAsks x bound before) where
+module _ {x : Given} {bound : ℕ} {starts ends before : List ℕ} (asks : SearchAsks x bound starts ends before) where
   some-table : T (not (noTable x))
   some-table = no-is (asks .some)
 
@@ -58,9 +58,10 @@ module _ {x : Given} {bound : ℕ} {before : List ℕ} (asks : SearchAsks x boun
         (subst (λ (j : ℕ). T (feasible x j)) same (h .enough)) (h .none-below)
 
     -- what a pass at k asks
-    pub pass-asks : (k : ℕ) → k ≤ high → RowsAsk x k words
+    pub pass-asks : (k : ℕ) → k ≤ high → RowsAsk x k starts ends words
     pass-asks k l = record {
       workable = asks .workable;
+      runs = asks .runs;
       some = asks .some;
       last = last-kept (asks .workable) (h .kept) (asks .last);
       small = le-trans l (le-trans (h .bounded) (worst-top (asks .workable) _ (low-allowed x (asks .workable .usable) (every-level x (asks .workable .usable) some-table))));

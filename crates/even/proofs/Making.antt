@@ -12,18 +12,21 @@ use Rattle.laws.proofs.Cases.{is-yes, no-is, yes-is}
 use Rattle.reach.specs.Rows.{lit, RowThere, RunLit}
 use Rattle.even.specs.Even.{Given, t}
 use Rattle.even.specs.Table.{noTable, feasible, lowestLevels, leastWorst, evenTable}
-use Rattle.even.specs.Runs.{runFrom, runTo, IsRun}
-use Rattle.even.specs.Filling.{Workable, firstBound, litAt, LastLit, KeptFrom, SearchAsks, Searched, WriteAsks, lowestWithin, Lent, MakeAsks, Made, evenOutcome, evenOver, EvenFilled}
+use Rattle.even.specs.Runs.{runFrom, runTo, IsRun, RunAt}
+use Rattle.even.specs.Filling.{RunsFound, litAt, LastLit, KeptFrom, SearchAsks, Searched, WriteAsks, lowestWithin, Lent, MakeAsks, Made, evenOutcome, evenOver, EvenFilled}
 use Rattle.even.specs.declared.Outcome.{Outcome}
 use Rattle.even.specs.declared.Outcome.the-variants.{Table, NoTable}
-use Rattle.even.proofs.Runs.{reaching-top, allowed-run}
+use Rattle.even.proofs.Runs.{reaching-top, allowed-run, run-found}
 use Rattle.even.proofs.Even.{low-allowed, every-level, least-below, least-feasible}
-use Rattle.even.proofs.Bound.{last-value, bound-told, bound-value}
+use Rattle.even.proofs.Bound.{last-value, bound-told, bound-value, none-told}
 use Rattle.even.proofs.Rows.{kept-all, kept-then, kept-row, kept-less}
 use Rattle.even.proofs.Halving.{worst-top}
 
-module _ {x : Given} {bound : ℕ} {before words : List ℕ} (asks : MakeAsks x bound before words) where
-  module _ {from to : ℕ} (run : IsRun (x .curve) (x .tolerance) (t x (length (x .targets) - 1)) from to) where
+module _ {x : Given} {bound : ℕ} {starts ends before words : List ℕ} (asks : MakeAsks x bound starts ends before words) where
+  module _ {from to : ℕ} (found : RunAt starts ends (length (x .targets) - 1) from to) where
+    run : IsRun (x .curve) (x .tolerance) (t x (length (x .targets) - 1)) from to
+    run = run-found (asks .runs) (last-value (asks .lent .workable)) found
+
     pub last-there : RowThere words (length (x .targets) - 1) to
     last-there = record {
       few = omega (arith, asks .lent .workable .values);
@@ -41,13 +44,14 @@ module _ {x : Given} {bound : ℕ} {before words : List ℕ} (asks : MakeAsks x 
         lit-last = λ d h. here d ∙ sym (allowed-run x (asks .lent .workable .usable) (length (x .targets) - 1) d h);
       }
 
-      pub search-asks : SearchAsks x bound lighted
-      search-asks = record { workable = asks .lent .workable; some = asks .some; last = last-lit; bound-is = asks .bound-is }
+      pub search-asks : SearchAsks x bound starts ends lighted
+      search-asks = record { workable = asks .lent .workable; runs = asks .runs; some = asks .some; last = last-lit; bound-is = asks .bound-is }
 
       module _ {after : List ℕ} {k : ℕ} (s : Searched x lighted after k) where
-        pub write-asks : WriteAsks x k after before
+        pub write-asks : WriteAsks x k starts ends after before
         write-asks = record {
           workable = asks .lent .workable;
+          runs = asks .runs;
           some = rw (s .least) (is-yes _ (least-feasible x (asks .lent .workable .usable) (no-is (asks .some))));
           rows = s .rows;
           there = rw (s .kept .len, on .kept .len) (asks .lent .rows-fit);
@@ -65,25 +69,33 @@ module _ {x : Given} {bound : ℕ} {before words : List ℕ} (asks : MakeAsks x 
           later-words = kept-then (kept-row (last-value (asks .lent .workable)) (on .kept)) (kept-less (omega arith) (s .kept));
         }
 
-module _ {x : Given} {before words : List ℕ} where
-  pub make-asks : {bound : ℕ} → Lent x before words → Table bound ≡ firstBound x → MakeAsks x bound before words
-  make-asks lent e = record { lent = lent; some = bound-told x e; bound-is = bound-value x e }
+-- ---- by what was found
 
-  pub even-none : noTable x ≡ true → EvenFilled x before before words words NoTable
+module _ {x : Given} {starts ends before words : List ℕ} {r : Outcome} (found : RunsFound x starts ends r) where
+  pub make-asks : {bound : ℕ} → Lent x before words → r ≡ Table bound → MakeAsks x bound starts ends before words
+  make-asks lent e =
+      let b = sym e ∙ found .bound-is in
+      record { lent = lent; runs = found .runs (bound-told x b); some = bound-told x b; bound-is = bound-value x b }
+
+  pub even-none : r ≡ NoTable → EvenFilled x before before words words NoTable
   unfolding evenOutcome evenOver
-  even-none e = record {
-    answers = rw e refl;
-    table = rw e refl;
-    later-words = kept-all _ words;
-    no-words = λ _. refl;
-  }
+  even-none e =
+      let none = none-told x (sym e ∙ found .bound-is) in
+      record {
+        answers = rw none refl;
+        table = rw none refl;
+        later-words = kept-all _ words;
+        no-words = λ _. refl;
+      }
 
-  pub even-made : {after wordsAfter : List ℕ} {worst : ℕ} → noTable x ≡ false → Made x before after words wordsAfter worst
+  pub even-made : {bound worst : ℕ} {after wordsAfter : List ℕ} → r ≡ Table bound → Made x before after words wordsAfter worst
       → EvenFilled x before after words wordsAfter (Table worst)
   unfolding evenOutcome evenOver
-  even-made e m = record {
-    answers = rw (e, m .worst-is) refl;
-    table = rw e (m .table);
-    later-words = m .later-words;
-    no-words = λ f. absurd (subst T (sym f ∙ e) tt);
-  }
+  even-made e m =
+      let some = bound-told x (sym e ∙ found .bound-is) in
+      record {
+        answers = rw (some, m .worst-is) refl;
+        table = rw some (m .table);
+        later-words = m .later-words;
+        no-words = λ f. absurd (subst T (sym f ∙ some) tt);
+      }

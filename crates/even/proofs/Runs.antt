@@ -19,7 +19,7 @@ use Rattle.laws.proofs.Numbers.{quotient-mono}
 use Rattle.laws.proofs.Search.{any-intro, lowest-passes, lowest-top, lowest-le, lowest-is, lowest-under, lowest-found}
 use Rattle.even.specs.Even.{Given, F, t, AllowedAt, Usable}
 use Rattle.even.specs.Table.{allowedAt}
-use Rattle.even.specs.Runs.{margin, darkest, brightest, reaching, runFrom, runTo, IsRun, NotAbove, NotBelow}
+use Rattle.even.specs.Runs.{margin, darkest, brightest, reaching, runFrom, runTo, IsRun, NotAbove, RunAt, AreRuns}
 
 -- ---- the first level that is not darker than l
 
@@ -53,10 +53,6 @@ module _ (curve : List ℕ) (l : ℕ) where
     pub still-darker : (d : ℕ) → d < length curve → getD curve d 0 < l → d < reaching curve l
     still-darker d k a = ⊎-elim (λ b. clash a (not-darker d b k)) (λ b. b) (le-or-lt (reaching curve l) d)
 
-    -- one level back
-    pub fell : (d : ℕ) → d - 1 < length curve → getD curve (d - 1) 0 < l → d ≤ reaching curve l
-    fell d k a = omega (arith, still-darker (d - 1) k a)
-
 pub reaching-rises : (curve : List ℕ) → NeverFalls curve → (l m : ℕ) → l ≤ m → reaching curve l ≤ reaching curve m
 reaching-rises curve keeps l m h =
     ⊎-elim (λ a. a)
@@ -85,19 +81,13 @@ not-above curve w s t from to keeps h a run = record {
   to-low = rw (run .to-is) (reaching-rises curve keeps _ _ (omega (arith, brightest-rises w s t a)));
 }
 
-pub not-below : (curve : List ℕ) (w s t from to : ℕ) → NeverFalls curve → w ≤ 1000 → s ≤ t → IsRun curve w t from to → NotBelow curve w s from to
-not-below curve w s t from to keeps h a run = record {
-  from-high = record {
-    never-falls = keeps;
-    high = rw (run .from-is) (reaching-rises curve keeps _ _ (darkest-rises w s t h a));
-    inside = rw (run .from-is) (reaching-top curve _);
-  };
-  to-high = record {
-    never-falls = keeps;
-    high = rw (run .to-is) (reaching-rises curve keeps _ _ (omega (arith, brightest-rises w s t a)));
-    inside = rw (run .to-is) (reaching-top curve _);
-  };
-}
+-- a run of those that were found
+pub runs-there : {x : Given} {starts ends : List ℕ} {p : ℕ} → AreRuns x starts ends → p < length (x .targets) → (p < length starts) × (p < length ends)
+runs-there runs l = (le-trans l (runs .starts-fit), le-trans l (runs .ends-fit))
+
+pub run-found : {x : Given} {starts ends : List ℕ} {p from to : ℕ} → AreRuns x starts ends → p < length (x .targets) → RunAt starts ends p from to
+    → IsRun (x .curve) (x .tolerance) (t x p) from to
+run-found {p = p} runs l at = record { from-is = at .from-is ∙ runs .starts-are p l; to-is = at .to-is ∙ runs .ends-are p l }
 
 module _ (x : Given) where
   pub allowed-is : (p d : ℕ) → T (allowedAt x p d) → AllowedAt x p d

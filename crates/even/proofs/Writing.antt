@@ -22,13 +22,13 @@ use Rattle.reach.proofs.Rows.{IsLit, lit-is, is-lit}
 use Rattle.even.specs.Even.{Given, F, t, targetStep}
 use Rattle.even.specs.Paths.{good, next, lowestPath}
 use Rattle.even.specs.Table.{stepWithin, tablesWithin, goodAt, feasible}
-use Rattle.even.specs.Runs.{runFrom, runTo, IsRun}
+use Rattle.even.specs.Runs.{runFrom, runTo, RunAt}
 use Rattle.even.specs.Steps.{leastStep, mostStep, IsSpan}
 use Rattle.even.specs.Filling.{Workable, litAt, RowsGood, WriteAsks, lowestWithin}
 use Rattle.even.proofs.Paths.{Path, path-from, path-good, lowest-path, next-good, next-is}
-use Rattle.even.proofs.Runs.{reaching-top}
+use Rattle.even.proofs.Runs.{reaching-top, run-found}
 use Rattle.even.proofs.Steps.{step-fits}
-use Rattle.even.proofs.Bound.{At, at-run, rises}
+use Rattle.even.proofs.Bound.{next-value, rises}
 
 -- ---- the first lit level that is bright enough
 
@@ -51,7 +51,7 @@ module _ {curve words : List ℕ} {p from to start least r : ℕ} (first : First
     first-is-lit : from ≤ start → IsLit words p from to r
     first-is-lit l = record { low = le-trans l (first .after); high = below-end; bit = first .set below-end }
 
-module _ {x : Given} {k : ℕ} {words before : List ℕ} (asks : WriteAsks x k words before) where
+module _ {x : Given} {k : ℕ} {starts ends words before : List ℕ} (asks : WriteAsks x k starts ends words before) where
   -- the lit levels of p are the good ones
   good-lit : (p d : ℕ) → p < length (x .targets) → d < length (x .curve) → T (goodAt x k p d) → IsLit words p (runFrom x p) (runTo x p) d
   good-lit p d l h g = lit-is words p _ _ d (asks .rows .lit-good p d zero-le l h ∙ is-yes _ g)
@@ -136,43 +136,47 @@ same-numbers : {curve words : List ℕ} {p p′ to to′ start start′ least le
 same-numbers i j m n first = rw (← i, ← j, ← m, ← n) first
 
 -- the entries before p are written, and that of p is d
-pub record Writing (x : Given) (k : ℕ) (before after : List ℕ) (p target from to d : ℕ) : Type 0 where
-  pub at : At x p target from to
+pub record Writing (x : Given) (k : ℕ) (before after : List ℕ) (p target d : ℕ) : Type 0 where
+  pub value : p < length (x .targets)
+  pub target-is : target ≡ t x p
   pub level-is : d ≡ lowestPath (tablesWithin x k) p
   pub table-is : after ≡ tab (lowestPath (tablesWithin x k)) p ++ drop p before
   pub len : length after ≡ length before
 
-module _ {x : Given} {k : ℕ} {words before : List ℕ} (asks : WriteAsks x k words before) where
+module _ {x : Given} {k : ℕ} {starts ends words before : List ℕ} (asks : WriteAsks x k starts ends words before) where
   path : Path (tablesWithin x k) 0 (lowestPath (tablesWithin x k))
   unfolding feasible
   path = lowest-path (tablesWithin x k) (yes-is (asks .some))
 
-  pub row-there : {p target from to : ℕ} → At x p target from to → RowThere words p to
-  row-there {p} a = record {
-    few = omega (arith, a .value, asks .workable .values);
-    inside = omega (arith, a .value, asks .there);
-    levels = rw (a .to-is) (le-trans (reaching-top (x .curve) _) (asks .workable .levels));
-  }
+  -- what the search for a level of a row asks
+  pub row-there : {p from to : ℕ} → p < length (x .targets) → RunAt starts ends p from to → RowThere words p to × (to ≤ length (x .curve))
+  row-there {p} l found =
+      let run = run-found (asks .runs) l found in
+      let inside = subst (λ (to : ℕ). to ≤ length (x .curve)) (sym (run .to-is)) (reaching-top (x .curve) _) in (
+        record {
+          few = omega (arith, asks .workable .values);
+          inside = omega (arith, asks .there);
+          levels = le-trans inside (asks .workable .levels);
+        },
+        inside,
+      )
 
-  pub run-inside : {p target from to : ℕ} → At x p target from to → to ≤ length (x .curve)
-  run-inside a = rw (a .to-is) (reaching-top (x .curve) _)
-
-  pub writing-first : {target from to r : ℕ} → At x 0 target from to → First (x .curve) words 0 to from 0 r
-      → Writing x k before before 0 target from to r
+  pub writing-first : {from to r : ℕ} → RunAt starts ends 0 from to → First (x .curve) words 0 to from 0 r → Writing x k before before 0 (t x 0) r
   unfolding tab
-  writing-first a first = record {
-    at = a;
+  writing-first found first = let a = run-found (asks .runs) (asks .workable .usable .some-target) found in record {
+    value = asks .workable .usable .some-target;
+    target-is = refl;
     level-is = level-first asks (rw (a .from-is, a .to-is) at first);
     table-is = refl;
     len = refl;
   }
 
-  module _ {after : List ℕ} {p target from to d : ℕ} (w : Writing x k before after p target from to d) where
+  module _ {after : List ℕ} {p target d : ℕ} (w : Writing x k before after p target d) where
     pub level-small : d < length (x .curve)
-    level-small = rw (w .level-is) (path .level p zero-le (omega (arith, w .at .value)))
+    level-small = rw (w .level-is) (path .level p zero-le (omega (arith, w .value)))
 
     entry-fits : p < length before
-    entry-fits = omega (arith, w .at .value, asks .fits)
+    entry-fits = omega (arith, w .value, asks .fits)
 
     -- the entry of p written
     written : set after p d ≡ tab (lowestPath (tablesWithin x k)) (p + 1) ++ drop (p + 1) before
@@ -182,46 +186,47 @@ module _ {x : Given} {k : ℕ} {words before : List ℕ} (asks : WriteAsks x k w
 
     pub writing-all : length (x .targets) - 1 ≤ p → set after p d ≡ lowestWithin x k ++ drop (length (x .targets)) before
     writing-all h =
-        let e : p + 1 ≡ length (x .targets) = omega (arith, w .at .value) in
+        let e : p + 1 ≡ length (x .targets) = omega (arith, w .value) in
         written ∙ ap (λ (n : ℕ). tab (lowestPath (tablesWithin x k)) n ++ drop n before) e
 
-    module _ {nextTarget nextFrom nextTo least most r : ℕ} (a : At x (p + 1) nextTarget nextFrom nextTo) (span : IsSpan k (nextTarget - target) least most)
+    module _ {nextFrom nextTo least most r : ℕ} (l : p < length (x .targets) - 1) (found : RunAt starts ends (p + 1) nextFrom nextTo) (span : IsSpan k (t x (p + 1) - target) least most)
         (first : First (x .curve) words (p + 1) nextTo (max d nextFrom) (F x d + least) r) where
       good-here : T (goodAt x k p d)
       good-here =
           rw (w .level-is)
-          (path-good (tablesWithin x k) _ p (omega (arith, w .at .value)) (path-from (tablesWithin x k) _ 0 p zero-le path))
+          (path-good (tablesWithin x k) _ p (omega (arith, w .value)) (path-from (tablesWithin x k) _ 0 p zero-le path))
 
       as-defined : First (x .curve) words (suc p) (runTo x (suc p)) (max d (runFrom x (suc p))) (F x d + leastStep k (targetStep x p)) r
       as-defined =
           let e : p + 1 ≡ suc p = add-one p in
-          let next-to : nextTo ≡ runTo x (suc p) = a .to-is ∙ ap (runTo x) e in
-          let next-from : nextFrom ≡ runFrom x (suc p) = a .from-is ∙ ap (runFrom x) e in
-          let step : nextTarget - target ≡ targetStep x p = ap₂ (λ (b c : ℕ). b - c) (a .target-is ∙ ap (t x) e) (w .at .target-is) in
+          let run = run-found (asks .runs) (next-value (asks .workable) p l) found in
+          let next-to : nextTo ≡ runTo x (suc p) = run .to-is ∙ ap (runTo x) e in
+          let next-from : nextFrom ≡ runFrom x (suc p) = run .from-is ∙ ap (runFrom x) e in
+          let step : t x (p + 1) - target ≡ targetStep x p = ap₂ (λ (b c : ℕ). b - c) (ap (t x) e) (w .target-is) in
           let least-is : least ≡ leastStep k (targetStep x p) = span .least-is ∙ ap (leastStep k) step in
           same-numbers e next-to (ap (max d) next-from) (ap (λ (y : ℕ). F x d + y) least-is) first
 
       level-after : r ≡ lowestPath (tablesWithin x k) (p + 1)
       unfolding lowestPath
       level-after =
-          level-next asks p d (omega (arith, a .value)) good-here as-defined
+          level-next asks p d (omega arith) good-here as-defined
           ∙ ap (next (tablesWithin x k) p) (w .level-is) ∙ ap (lowestPath (tablesWithin x k)) (sym (add-one p))
 
-      pub writing-more : Writing x k before (set after p d) (p + 1) nextTarget nextFrom nextTo r
-      writing-more = record { at = a; level-is = level-after; table-is = written; len = length-set after p d ∙ w .len }
+      pub writing-more : Writing x k before (set after p d) (p + 1) (t x (p + 1)) r
+      writing-more = record { value = next-value (asks .workable) p l; target-is = refl; level-is = level-after; table-is = written; len = length-set after p d ∙ w .len }
 
 -- ---- numbers that fit
 
-module _ {x : Given} {k : ℕ} {words before after : List ℕ} {p target from to d : ℕ} (asks : WriteAsks x k words before) (w : Writing x k before after p target from to d) where
+module _ {x : Given} {k : ℕ} {starts ends words before after : List ℕ} {p target d : ℕ} (asks : WriteAsks x k starts ends words before) (w : Writing x k before after p target d) where
   pub level-fits : d < 65536
   level-fits = omega (arith, level-small asks w, asks .workable .levels)
 
   pub entry-inside : p < length after
-  entry-inside = omega (arith, w .at .value, asks .fits, w .len)
+  entry-inside = omega (arith, w .value, asks .fits, w .len)
 
   module _ (l : p < length (x .targets) - 1) where
     pub next-rises : target < t x (p + 1)
-    next-rises = omega (arith, w .at .target-is, rises (asks .workable) p l)
+    next-rises = omega (arith, w .target-is, rises (asks .workable) p l)
 
     pub next-step : t x (p + 1) - target < 2 ^ 26
     next-step = omega (arith, asks .workable .targets-small (p + 1) (omega arith))

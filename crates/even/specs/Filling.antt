@@ -9,7 +9,7 @@ use Rattle.reach.specs.Rows.{lit, RowKept}
 use Rattle.even.specs.Even.{Given, F, t, Usable, worstStep}
 use Rattle.even.specs.Paths.{lowestPath}
 use Rattle.even.specs.Table.{allowedAt, noTable, goodAt, feasible, tablesWithin, lowestLevels, leastWorst, evenTable}
-use Rattle.even.specs.Runs.{runFrom, runTo}
+use Rattle.even.specs.Runs.{runFrom, runTo, AreRuns}
 use Rattle.even.specs.declared.Outcome.{Outcome}
 use Rattle.even.specs.declared.Outcome.the-variants.{Table, NoTable}
 
@@ -24,9 +24,20 @@ pub record Workable (x : Given) : Type 0 where
   pub curve-small : (d : ℕ) → d < length (x .curve) → F x d < 2 ^ 26
   pub targets-small : (p : ℕ) → p < length (x .targets) → t x p < 2 ^ 26
 
+-- what finding the runs asks: a place for each end
+pub record RunsAsk (x : Given) (starts ends : List ℕ) : Type 0 where
+  pub workable : Workable x
+  pub starts-fit : length (x .targets) ≤ length starts
+  pub ends-fit : length (x .targets) ≤ length ends
+
 -- the worst step of the lowest levels bounds that of the even table
 unfoldable pub firstBound : Given → Outcome
 firstBound x = cond (noTable x) NoTable (Table (worstStep x (lowestLevels x)))
+
+-- the bound, and the runs where some table is allowed
+pub record RunsFound (x : Given) (starts ends : List ℕ) (bound : Outcome) : Type 0 where
+  pub bound-is : bound ≡ firstBound x
+  pub runs : noTable x ≡ false → AreRuns x starts ends
 
 -- level d of the row of p is lit
 abbrev pub litAt : Given → (words : List ℕ) (p d : ℕ) → Bool
@@ -47,8 +58,9 @@ pub record KeptFrom (p : ℕ) (before after : List ℕ) : Type 0 where
   pub words : (i : ℕ) → 32 * p ≤ i → getD after i 0 ≡ getD before i 0
 
 -- what filling the rows for k asks
-pub record RowsAsk (x : Given) (k : ℕ) (words : List ℕ) : Type 0 where
+pub record RowsAsk (x : Given) (k : ℕ) (starts ends words : List ℕ) : Type 0 where
   pub workable : Workable x
+  pub runs : AreRuns x starts ends
   pub some : noTable x ≡ false
   pub last : LastLit x words
   pub small : k ≤ 1000 * 2 ^ 26
@@ -60,8 +72,9 @@ pub record RowsFilled (x : Given) (k : ℕ) (before after : List ℕ) (some : Bo
   pub rows : some ≡ true → RowsGood x after k 0
 
 -- what the search for the least worst step asks: the bound is that of the lowest levels
-pub record SearchAsks (x : Given) (bound : ℕ) (words : List ℕ) : Type 0 where
+pub record SearchAsks (x : Given) (bound : ℕ) (starts ends words : List ℕ) : Type 0 where
   pub workable : Workable x
+  pub runs : AreRuns x starts ends
   pub some : noTable x ≡ false
   pub last : LastLit x words
   pub bound-is : bound ≡ worstStep x (lowestLevels x)
@@ -73,8 +86,9 @@ pub record Searched (x : Given) (before after : List ℕ) (k : ℕ) : Type 0 whe
   pub rows : RowsGood x after k 0
 
 -- what writing the table asks: rows filled for k, which some allowed table keeps
-pub record WriteAsks (x : Given) (k : ℕ) (words before : List ℕ) : Type 0 where
+pub record WriteAsks (x : Given) (k : ℕ) (starts ends words before : List ℕ) : Type 0 where
   pub workable : Workable x
+  pub runs : AreRuns x starts ends
   pub some : feasible x k ≡ true
   pub rows : RowsGood x words k 0
   pub there : 32 * length (x .targets) ≤ length words
@@ -85,15 +99,22 @@ pub record WriteAsks (x : Given) (k : ℕ) (words before : List ℕ) : Type 0 wh
 abbrev pub lowestWithin : Given → (k : ℕ) → List ℕ
 lowestWithin x k = tab (lowestPath (tablesWithin x k)) (length (x .targets))
 
--- what the table asks: 32 words for each P-value, and as many entries as P-values
+-- what the table asks: as many entries as P-values, and 32 words for each
 pub record Lent (x : Given) (before words : List ℕ) : Type 0 where
   pub workable : Workable x
   pub entries-fit : length (x .targets) ≤ length before
   pub rows-fit : 32 * length (x .targets) ≤ length words
 
--- and where some table is allowed
-pub record MakeAsks (x : Given) (bound : ℕ) (before words : List ℕ) : Type 0 where
+-- and places for the ends of the runs
+pub record FillAsks (x : Given) (starts ends before words : List ℕ) : Type 0 where
   pub lent : Lent x before words
+  pub starts-fit : length (x .targets) ≤ length starts
+  pub ends-fit : length (x .targets) ≤ length ends
+
+-- what making it asks: the runs are found, and some table is allowed
+pub record MakeAsks (x : Given) (bound : ℕ) (starts ends before words : List ℕ) : Type 0 where
+  pub lent : Lent x before words
+  pub runs : AreRuns x starts ends
   pub some : noTable x ≡ false
   pub bound-is : bound ≡ worstStep x (lowestLevels x)
 

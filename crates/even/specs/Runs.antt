@@ -1,11 +1,10 @@
 -- The levels allowed at a P-value are a run: from where the curve enters the band around the target to where it leaves it.
-use Prim.Native.Nat.{ℕ, _+_, _-_, _*_, _/_, _≤_}
+use Prim.Native.Nat.{ℕ, _+_, _-_, _*_, _/_, _≤_, _<_}
 use mathlib.Core.Path.{_≡_}
 use mathlib.Core.List.{List}
 use lib.Dec.{leb}
 use lib.ListN.{length, getD}
 use Rattle.laws.specs.Search.{lowest}
-use Rattle.laws.specs.Rises.{NeverFalls}
 use Rattle.even.specs.Even.{Given, t}
 
 -- the error allowed around a target, as a luminance, rounded down
@@ -22,12 +21,6 @@ brightest tolerance target = target + margin tolerance target
 -- the first level that is not darker than l; where all are, their number
 unfoldable pub reaching : (curve : List ℕ) (l : ℕ) → ℕ
 reaching curve l = lowest (λ d. leb l (getD curve d 0)) (length curve)
-
--- d is not below it, nor above the number of levels
-pub record FallsTo (curve : List ℕ) (l d : ℕ) : Type 0 where
-  pub never-falls : NeverFalls curve
-  pub high : reaching curve l ≤ d
-  pub inside : d ≤ length curve
 
 -- the first level in the band, and the first above it
 abbrev pub enters : (curve : List ℕ) (tolerance target : ℕ) → ℕ
@@ -53,7 +46,14 @@ pub record NotAbove (curve : List ℕ) (tolerance target from to : ℕ) : Type 0
   pub from-low : from ≤ enters curve tolerance target
   pub to-low : to ≤ leaves curve tolerance target
 
--- neither lies below, and both are levels or their number
-pub record NotBelow (curve : List ℕ) (tolerance target from to : ℕ) : Type 0 where
-  pub from-high : FallsTo curve (darkest tolerance target) from
-  pub to-high : FallsTo curve (brightest tolerance target + 1) to
+-- what two lists hold at p
+pub record RunAt (starts ends : List ℕ) (p from to : ℕ) : Type 0 where
+  pub from-is : from ≡ getD starts p 0
+  pub to-is : to ≡ getD ends p 0
+
+-- two lists hold the runs of all P-values: where each starts, and where it has ended
+pub record AreRuns (x : Given) (starts ends : List ℕ) : Type 0 where
+  pub starts-fit : length (x .targets) ≤ length starts
+  pub ends-fit : length (x .targets) ≤ length ends
+  pub starts-are : (p : ℕ) → p < length (x .targets) → getD starts p 0 ≡ runFrom x p
+  pub ends-are : (p : ℕ) → p < length (x .targets) → getD ends p 0 ≡ runTo x p

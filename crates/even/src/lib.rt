@@ -6,8 +6,8 @@ ghost use lib.ListN.{length, drop};
 ghost use Prim.Native.Nat.{max, _+_, _*_, _^_, _<_, _≤_};
 ghost use Rattle.laws.specs.Numbers.{distance};
 ghost use Rattle.even.specs.Even.{stepDeviation};
-ghost use Rattle.even.specs.Runs.{darkest, brightest, reaching, FallsTo, IsRun, NotAbove, NotBelow};
-ghost use Rattle.even.specs.Filling.{given, Workable, firstBound, RowsAsk, RowsFilled, SearchAsks, Searched, WriteAsks, lowestWithin, Lent, MakeAsks, Made, EvenFilled};
+ghost use Rattle.even.specs.Runs.{darkest, brightest, reaching, IsRun, NotAbove, RunAt};
+ghost use Rattle.even.specs.Filling.{given, RunsAsk, RunsFound, RowsAsk, RowsFilled, SearchAsks, Searched, WriteAsks, lowestWithin, FillAsks, MakeAsks, Made, EvenFilled};
 ghost use Rattle.even.specs.Steps.{IsSpan};
 use reach::Run;
 use units::Luminance;
@@ -55,20 +55,6 @@ fn rise_to(curve: &[u32], l: Luminance, mut d: usize) -> usize
     d
 }
 
-// The same from one that is not below it.
-fn fall_to(curve: &[u32], l: Luminance, mut d: usize) -> usize
-    requires { ⌜ FallsTo (now curve) (l .0) d ⌝ }
-    ensures { λ r. ⌜ r ≡ reaching (now (curve .entry)) (l .0) ⌝ }
-{
-    while 0 < d {
-        if curve[d - 1] < l.0 {
-            return d;
-        }
-        d -= 1;
-    }
-    d
-}
-
 // The run of a target, from that of a target that is not above it.
 fn run_up(curve: &[u32], tolerance: u16, target: Luminance, run: Run) -> Run
     requires { ⌜ (tolerance ≤ 1000) × (target .0 < 2 ^ 26) ⌝ }
@@ -78,18 +64,6 @@ fn run_up(curve: &[u32], tolerance: u16, target: Luminance, run: Run) -> Run
     let band = band_of(tolerance, target);
     let from = rise_to(curve, band.dark, run.from);
     let to = rise_to(curve, band.bright, run.to);
-    Run { from, to }
-}
-
-// The run of a target, from that of a target that is not below it.
-fn run_down(curve: &[u32], tolerance: u16, target: Luminance, run: Run) -> Run
-    requires { ⌜ (tolerance ≤ 1000) × (target .0 < 2 ^ 26) ⌝ }
-    requires { ⌜ NotBelow (now curve) tolerance (target .0) (run .from) (run .to) ⌝ }
-    ensures { λ r. ⌜ IsRun (now (curve .entry)) tolerance (target .0) (r .from) (r .to) ⌝ }
-{
-    let band = band_of(tolerance, target);
-    let from = fall_to(curve, band.dark, run.from);
-    let to = fall_to(curve, band.bright, run.to);
     Run { from, to }
 }
 
@@ -123,10 +97,17 @@ fn step_deviation(f: Luminance, g: Luminance) -> u64
     (1000 * apart + (wanted - 1)) / wanted
 }
 
-// The worst step of the table of the lowest allowed levels, which bounds that of the even table; or that some P-value has no allowed level.
-fn first_bound(curve: &[u32], targets: &[u32], tolerance: u16) -> Outcome
-    requires { ⌜ Workable (given (now curve) (now targets) tolerance) ⌝ }
-    ensures { λ r. ⌜ r ≡ firstBound (given (now (curve .entry)) (now (targets .entry)) tolerance) ⌝ }
+// Finds the run of each P-value, and the worst step of the table of the lowest allowed levels, which bounds that of the even table;
+// or that some P-value has no allowed level.
+fn find_runs(
+    curve: &[u32],
+    targets: &[u32],
+    tolerance: u16,
+    starts: &mut [u16],
+    ends: &mut [u16],
+) -> Outcome
+    requires { ⌜ RunsAsk (given (now curve) (now targets) tolerance) (now starts) (now ends) ⌝ }
+    ensures { λ r. ⌜ RunsFound (given (now (curve .entry)) (now (targets .entry)) tolerance) (now (starts .exit)) (now (ends .exit)) r ⌝ }
 {
     let last = targets.len() - 1;
     let mut target = targets[0];
@@ -139,10 +120,13 @@ fn first_bound(curve: &[u32], targets: &[u32], tolerance: u16) -> Outcome
     let mut worst: u64 = 0;
     let mut p: usize = 0;
     while p < last {
-        let next_target = targets[p + 1];
-        let next = run_up(curve, tolerance, Luminance(next_target), Run { from, to });
-        let next_from = next.from;
-        let next_to = next.to;
+        starts[p] = from as u16;
+        ends[p] = to as u16;
+        let next = p + 1;
+        let next_target = targets[next];
+        let run = run_up(curve, tolerance, Luminance(next_target), Run { from, to });
+        let next_from = run.from;
+        let next_to = run.to;
         if next_to <= next_from {
             return Outcome::NoTable;
         }
@@ -153,9 +137,21 @@ fn first_bound(curve: &[u32], targets: &[u32], tolerance: u16) -> Outcome
         from = next_from;
         to = next_to;
         target = next_target;
-        p += 1;
+        p = next;
     }
+    starts[p] = from as u16;
+    ends[p] = to as u16;
     Outcome::Table(worst)
+}
+
+// The run of P-value p, of those that were found.
+fn run_at(starts: &[u16], ends: &[u16], p: usize) -> Run
+    requires { ⌜ (p < length (now starts)) × (p < length (now ends)) ⌝ }
+    ensures { λ r. ⌜ RunAt (now (starts .entry)) (now (ends .entry)) p (r .from) (r .to) ⌝ }
+{
+    let from = starts[p] as usize;
+    let to = ends[p] as usize;
+    Run { from, to }
 }
 
 // The steps of luminance whose step deviation is at most some k.
@@ -180,29 +176,29 @@ fn span_of(k: u64, g: Luminance) -> Span
 }
 
 // Fills the rows before the last one, from the highest down, for a worst step of at most k; whether some allowed table has one.
-fn fill_rows(curve: &[u32], targets: &[u32], tolerance: u16, k: u64, work: &mut [u32]) -> bool
-    requires { ⌜ RowsAsk (given (now curve) (now targets) tolerance) k (now work) ⌝ }
+// The runs are those that the allowed error makes; it has no other part in this.
+fn fill_rows(
+    curve: &[u32],
+    targets: &[u32],
+    tolerance: u16,
+    starts: &[u16],
+    ends: &[u16],
+    k: u64,
+    work: &mut [u32],
+) -> bool
+    requires { ⌜ RowsAsk (given (now curve) (now targets) tolerance) k (now starts) (now ends) (now work) ⌝ }
     ensures { λ r. ⌜ RowsFilled (given (now (curve .entry)) (now (targets .entry)) tolerance) k (now (work .entry)) (now (work .exit)) r ⌝ }
 {
-    let levels = curve.len();
     let last = targets.len() - 1;
     let mut target = targets[last];
-    let highest = run_down(
-        curve,
-        tolerance,
-        Luminance(target),
-        Run {
-            from: levels,
-            to: levels,
-        },
-    );
+    let highest = run_at(starts, ends, last);
     let mut from = highest.from;
     let mut to = highest.to;
     let mut p = last;
     while 0 < p {
         let lower = p - 1;
         let lower_target = targets[lower];
-        let run = run_down(curve, tolerance, Luminance(lower_target), Run { from, to });
+        let run = run_at(starts, ends, lower);
         let g = target - lower_target;
         let span = span_of(k, Luminance(g));
         let some = reach::fill_row(
@@ -226,8 +222,16 @@ fn fill_rows(curve: &[u32], targets: &[u32], tolerance: u16, k: u64, work: &mut 
 }
 
 // The least worst step of all allowed tables, by halving what is left between 0 and a bound; the rows are filled for it.
-fn least_worst(curve: &[u32], targets: &[u32], tolerance: u16, bound: u64, work: &mut [u32]) -> u64
-    requires { ⌜ SearchAsks (given (now curve) (now targets) tolerance) bound (now work) ⌝ }
+fn least_worst(
+    curve: &[u32],
+    targets: &[u32],
+    tolerance: u16,
+    starts: &[u16],
+    ends: &[u16],
+    bound: u64,
+    work: &mut [u32],
+) -> u64
+    requires { ⌜ SearchAsks (given (now curve) (now targets) tolerance) bound (now starts) (now ends) (now work) ⌝ }
     ensures { λ r. ⌜ Searched (given (now (curve .entry)) (now (targets .entry)) tolerance) (now (work .entry)) (now (work .exit)) r ⌝ }
 {
     let mut low: u64 = 0;
@@ -236,7 +240,7 @@ fn least_worst(curve: &[u32], targets: &[u32], tolerance: u16, bound: u64, work:
     let mut ready = false;
     while low < high {
         let middle = low + (high - low) / 2;
-        ready = fill_rows(curve, targets, tolerance, middle, work);
+        ready = fill_rows(curve, targets, tolerance, starts, ends, middle, work);
         if ready {
             high = middle;
         } else {
@@ -244,7 +248,7 @@ fn least_worst(curve: &[u32], targets: &[u32], tolerance: u16, bound: u64, work:
         }
     }
     if !ready {
-        fill_rows(curve, targets, tolerance, low, work);
+        fill_rows(curve, targets, tolerance, starts, ends, low, work);
     }
     low
 }
@@ -263,85 +267,77 @@ fn write_table(
     curve: &[u32],
     targets: &[u32],
     tolerance: u16,
+    starts: &[u16],
+    ends: &[u16],
     k: u64,
     work: &[u32],
     table: &mut [u16],
 )
-    requires { ⌜ WriteAsks (given (now curve) (now targets) tolerance) k (now work) (now table) ⌝ }
+    requires { ⌜ WriteAsks (given (now curve) (now targets) tolerance) k (now starts) (now ends) (now work) (now table) ⌝ }
     ensures { λ _. ⌜ now (table .exit) ≡ lowestWithin (given (now (curve .entry)) (now (targets .entry)) tolerance) k ++ drop (length (now (targets .entry))) (now (table .entry)) ⌝ }
 {
     let last = targets.len() - 1;
     let mut target = targets[0];
-    let first = run_up(curve, tolerance, Luminance(target), Run { from: 0, to: 0 });
-    let mut from = first.from;
-    let mut to = first.to;
-    let mut d = reach::first_lit(curve, work, 0, to, from, 0);
+    let first = run_at(starts, ends, 0);
+    let mut d = reach::first_lit(curve, work, 0, first.to, first.from, 0);
     let mut p: usize = 0;
     while p < last {
         table[p] = d as u16;
         let next = p + 1;
         let next_target = targets[next];
-        let run = run_up(curve, tolerance, Luminance(next_target), Run { from, to });
-        from = run.from;
-        to = run.to;
+        let run = run_at(starts, ends, next);
         let g = next_target - target;
         let span = span_of(k, Luminance(g));
         let least = curve[d] as u64 + span.least;
-        let start = later(d, from);
-        d = reach::first_lit(curve, work, next, to, start, least);
+        let start = later(d, run.from);
+        d = reach::first_lit(curve, work, next, run.to, start, least);
         target = next_target;
         p = next;
     }
     table[p] = d as u16;
 }
 
-// The even table of curve and targets of which some table is allowed; its worst step.
+// The even table of curve and targets of which some table is allowed, its runs found; its worst step.
 fn make_table(
     curve: &[u32],
     targets: &[u32],
     tolerance: u16,
+    starts: &[u16],
+    ends: &[u16],
     bound: u64,
     table: &mut [u16],
     work: &mut [u32],
 ) -> u64
-    requires { ⌜ MakeAsks (given (now curve) (now targets) tolerance) bound (now table) (now work) ⌝ }
+    requires { ⌜ MakeAsks (given (now curve) (now targets) tolerance) bound (now starts) (now ends) (now table) (now work) ⌝ }
     ensures { λ r. ⌜ Made (given (now (curve .entry)) (now (targets .entry)) tolerance) (now (table .entry)) (now (table .exit)) (now (work .entry)) (now (work .exit)) r ⌝ }
 {
-    let levels = curve.len();
     let last = targets.len() - 1;
-    let target = targets[last];
-    let run = run_down(
-        curve,
-        tolerance,
-        Luminance(target),
-        Run {
-            from: levels,
-            to: levels,
-        },
-    );
+    let run = run_at(starts, ends, last);
     reach::light_run(work, last, run);
-    let worst = least_worst(curve, targets, tolerance, bound, work);
-    write_table(curve, targets, tolerance, worst, work, table);
+    let worst = least_worst(curve, targets, tolerance, starts, ends, bound, work);
+    write_table(curve, targets, tolerance, starts, ends, worst, work, table);
     worst
 }
 
-// Fills the front of `table` with the even table and returns its worst step, or finds that there is none and changes nothing.
-// Works in the first 32 words for each target, whatever they hold.
+// Fills the front of `table` with the even table and returns its worst step, or finds that there is none and changes neither table nor work.
+// Works in the first 32 words for each target, whatever they hold, and keeps the ends of the runs of allowed levels in two slices of its own.
 pub fn fill_table(
     curve: &[u32],
     targets: &[u32],
     tolerance: u16,
+    starts: &mut [u16],
+    ends: &mut [u16],
     table: &mut [u16],
     work: &mut [u32],
 ) -> Outcome
-    requires { ⌜ Lent (given (now curve) (now targets) tolerance) (now table) (now work) ⌝ }
+    requires { ⌜ FillAsks (given (now curve) (now targets) tolerance) (now starts) (now ends) (now table) (now work) ⌝ }
     ensures { λ r. ⌜ EvenFilled (given (now (curve .entry)) (now (targets .entry)) tolerance) (now (table .entry)) (now (table .exit)) (now (work .entry)) (now (work .exit)) r ⌝ }
 {
-    let found = first_bound(curve, targets, tolerance);
+    let found = find_runs(curve, targets, tolerance, starts, ends);
     match found {
         Outcome::NoTable => Outcome::NoTable,
         Outcome::Table(bound) => {
-            let worst = make_table(curve, targets, tolerance, bound, table, work);
+            let worst = make_table(curve, targets, tolerance, starts, ends, bound, table, work);
             Outcome::Table(worst)
         }
     }

@@ -1,6 +1,6 @@
 // The even table of any curve and targets through the C ABI, on bare numbers: for the comparison by running and for the benchmark.
 ghost use mathlib.Core.Path.{_≡_};
-ghost use Rattle.even.specs.Filling.{given, Lent};
+ghost use Rattle.even.specs.Filling.{given, FillAsks};
 ghost use Rattle.even_values.specs.Values.{valuesOf, ValuesFilled};
 use even::Outcome;
 
@@ -29,12 +29,14 @@ pub extern "C" fn even_fill(
     curve: &[u32],
     targets: &[u32],
     tolerance: u16,
+    starts: &mut [u16],
+    ends: &mut [u16],
     table: &mut [u16],
     work: &mut [u32],
 ) -> EvenValues
-    requires { ⌜ Lent (given (now curve) (now targets) tolerance) (now table) (now work) ⌝ }
+    requires { ⌜ FillAsks (given (now curve) (now targets) tolerance) (now starts) (now ends) (now table) (now work) ⌝ }
     ensures { λ r. ⌜ ValuesFilled (given (now (curve .entry)) (now (targets .entry)) tolerance) (now (table .entry)) (now (table .exit)) (now (work .entry)) (now (work .exit)) r ⌝ }
 {
-    let outcome = even::fill_table(curve, targets, tolerance, table, work);
+    let outcome = even::fill_table(curve, targets, tolerance, starts, ends, table, work);
     values_of(outcome)
 }

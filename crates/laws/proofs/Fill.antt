@@ -7,7 +7,7 @@ use mathlib.Core.Logic.{⊎-elim}
 use native.Mathlib.Nat.{not-suc-le-zero, le-of-suc-le-suc, eq-or-lt-of-le}
 use native.Mathlib.Numerals.{add-one}
 use native.Mathlib.Omega.{arith}
-use lib.ListN.{length, take, drop, set, getD, length-append, List·getD-append}
+use lib.ListN.{length, take, drop, set, getD, length-set, length-append, List·getD-append}
 use lib.Seq.{drop-cons, set-at, getD-at, take-suc, take-length, length-take-le, length-front}
 use Rattle.laws.specs.Fill.{tab}
 
@@ -34,6 +34,28 @@ module _ {ℓ} {A : Type ℓ} (f : ℕ → A) where
       let k : i < length (tab f n) = rw length-tab l in
       List·getD-append (tab f n) (f n ∷ []) x i k ∙ getD-tab n i x l)
       (eq-or-lt-of-le (le-of-suc-le-suc h))
+
+-- the first n places hold f 0, f 1, .., and the others what they held before
+pub record Filled {ℓ} {A : Type ℓ} (f : ℕ → A) (before now : List A) (n : ℕ) : Type ℓ where
+  pub is : now ≡ tab f n ++ drop n before
+  pub len : length now ≡ length before
+
+module _ {ℓ} {A : Type ℓ} (f : ℕ → A) (before : List A) where
+  pub filled-none : Filled f before before 0
+  unfolding tab
+  filled-none = record { is = refl; len = refl }
+
+  pub filled-more : (now : List A) (n : ℕ) (x : A) → Filled f before now n → n < length before → x ≡ f n → Filled f before (set now n x) (n + 1)
+  filled-more now n x h l e = record {
+    is = rw (e, h .is) (fill f before n l);
+    len = length-set now n x ∙ h .len;
+  }
+
+  pub filled-at : (now : List A) (n i : ℕ) (x : A) → Filled f before now n → i < n → getD now i x ≡ f i
+  filled-at now n i x h l =
+      ap (λ (xs : List A). getD xs i x) (h .is)
+      ∙ List·getD-append (tab f n) (drop n before) x i (rw (length-tab f n) l)
+      ∙ getD-tab f n i x l
 
 -- ---- a list copied to the front of another, place by place
 
