@@ -16,6 +16,8 @@ use Rattle.engine.specs.declared.Frame.{Frame}
 use Rattle.engine.specs.declared.Prepared.the-variants.{Ready, SentBack}
 use Rattle.engine.specs.declared.NearestFigures.{NearestFigures}
 use Rattle.engine.specs.declared.NearestAnswer.the-variants as nearest
+use Rattle.engine.specs.declared.EvenFigures.{EvenFigures}
+use Rattle.engine.specs.declared.EvenAnswer.the-variants as even
 
 pub items-fault : {n : ℕ} {r : Refusal} → section.Items n ≡ section.Fault r → ⊥
 items-fault e = let z : _≡_ {A = ℕ} 0 1 = cc in omega arith
@@ -37,6 +39,9 @@ ready-back e = let z : _≡_ {A = ℕ} 0 1 = cc in omega arith
 
 pub made-refused : {figures : NearestFigures} {r : Refusal} → nearest.Made figures ≡ nearest.Refused r → ⊥
 made-refused e = let z : _≡_ {A = ℕ} 0 1 = cc in omega arith
+
+pub table-refused : {figures : EvenFigures} {r : Refusal} → even.Made figures ≡ even.Refused r → ⊥
+table-refused e = let z : _≡_ {A = ℕ} 0 1 = cc in omega arith
 
 pub pass-fail : Pass ≡ Fail → ⊥
 pass-fail e = let z : _≡_ {A = ℕ} 0 1 = cc in omega arith
@@ -61,3 +66,9 @@ same-sound e = cc
 
 pub same-nearest : {q r : Refusal} → nearest.Refused q ≡ nearest.Refused r → q ≡ r
 same-nearest e = cc
+
+pub same-figures : {f g : EvenFigures} → even.Made f ≡ even.Made g → f ≡ g
+same-figures e = cc
+
+pub same-even : {q r : Refusal} → even.Refused q ≡ even.Refused r → q ≡ r
+same-even e = cc

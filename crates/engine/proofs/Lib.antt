@@ -9,6 +9,9 @@ pub mod Conditions
 pub mod NearestOutcomes
 pub mod Nearest
 pub mod NearestFacts
+pub mod EvenTerms
+pub mod EvenOutcomes
+pub mod Even
 pub mod Checking
 pub mod CheckTests
 pub mod CheckOutcomes

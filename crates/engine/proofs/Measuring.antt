@@ -151,7 +151,7 @@ module _ {job : Job} {ddls luminances : List ℕ} (m : Measurable job ddls lumin
       pub ready : (mark : RoomMark) (curve₀ curve₁ targets₀ targets₁ : List ℕ) → mark ≡ roomMark (light .room .0) (getD luminances 0 0)
           → curve₁ ≡ curveOf (light .added .0) ddls luminances top ++ drop (top + 1) curve₀
           → targets₁ ≡ targetsOf (indices .low .0) (indices .range .0) 255 ++ drop 256 targets₀
-          → Prepares (measured job ddls luminances) (Ready (record { levels = top + 1; indices = indices; mark = mark })) curve₀ curve₁ targets₀ targets₁
+          → Prepares (measured job ddls luminances) (Ready (record { levels = top + 1; indices = indices; mark = mark; tolerance = job .settings .tolerance })) curve₀ curve₁ targets₀ targets₁
       ready mark curve₀ curve₁ targets₀ targets₁ em ec ea =
           let lc : length (curveOf (addedOf job) ddls luminances (topOf job)) ≡ topOf job + 1 = curve.curve-length (m .sweep) (addedOf job) in
           let lt : length (targetsOf (indices .low .0) (indices .range .0) 255) ≡ 256 = target.targets-length (indices .low .0) (indices .range .0) 255 in

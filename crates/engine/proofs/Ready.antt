@@ -22,6 +22,7 @@ pub record Readied (x : Soundness) (f : Frame) (curve targets : List ℕ) : Type
   pub known : IsSound job
   pub indices : f .indices ≡ job .indices
   pub mark : f .mark ≡ job .mark
+  pub tolerance : f .tolerance ≡ job .accepted .settings .tolerance
   pub fits : f .levels ≤ length curve
   pub levels : take (f .levels) curve ≡ job .curve
   pub values : targets ≡ job .targets
@@ -34,7 +35,7 @@ readied bytes r f curve₀ curve₁ targets₀ targets₁ n h q = go (soundness 
     go (unsound r) e p = absurd (ready-back (p .answers))
     go (sound job) e p =
         let known : IsSound job = sound-job bytes job e in
-        let same : f ≡ record { levels = length (job .curve); indices = job .indices; mark = job .mark } = let a = p .answers in cc in
+        let same : f ≡ record { levels = length (job .curve); indices = job .indices; mark = job .mark; tolerance = job .accepted .settings .tolerance } = let a = p .answers in cc in
         let l : f .levels ≡ length (job .curve) = ap (λ (g : Frame). g .levels) same in
         record {
           job = job;
@@ -42,6 +43,7 @@ readied bytes r f curve₀ curve₁ targets₀ targets₁ n h q = go (soundness 
           known = known;
           indices = ap (λ (g : Frame). g .indices) same;
           mark = ap (λ (g : Frame). g .mark) same;
+          tolerance = ap (λ (g : Frame). g .tolerance) same;
           fits = rw (p .curve, length-append) (omega arith);
           levels = rw (l, p .curve) (take-append-seam (job .curve) _);
           values = p .targets ∙ ap (λ (xs : List ℕ). job .targets ++ xs) (drop-of-length-le targets₀ {i = length (job .targets)} (omega (arith, known .values))) ∙ append-nil (job .targets);

@@ -27,7 +27,7 @@ use Rattle.engine.proofs.Reading.{measurable}
 use Rattle.engine.proofs.Clashes.{sound-unsound, same-sound}
 use Rattle.gsdf.specs.Table.{tableB1}
 
-module _ {job : Job} {ddls luminances : List ℕ} (m : Measurable job ddls luminances) where
+module _ {job : Job} {ddls luminances : List ℕ} (m : Measurable job ddls luminances) (error : job .settings .tolerance ≤ 1000) where
   module _ (indices : IndexRange) (e : sweepTests (addedOf job) luminances ≡ Wide indices) where
     made-sound : IsSound (made-of m indices e)
     made-sound =
@@ -72,6 +72,7 @@ module _ {job : Job} {ddls luminances : List ℕ} (m : Measurable job ddls lumin
                 low = target.target-low (indices .low .0) (indices .range .0) 255 (a .first) (a .last) (a .some) i (omega arith);
                 high = target.target-high (indices .low .0) (indices .range .0) 255 (a .first) (a .last) (a .some) i (omega arith);
               });
+          tolerance = error;
         }
 
   measured-sound : (made : SoundJob) → measured job ddls luminances ≡ sound made → IsSound made
@@ -90,4 +91,4 @@ sound-job bytes job e = go (answerOf bytes) refl
   where
     go : (x : Answer) → answerOf bytes ≡ x → IsSound job
     go (Refused r) t = absurd (sound-unsound (sym (rw t at e)))
-    go (Accepted j) t = measured-sound (measurable (accepted-job bytes j t)) job (rw t at e)
+    go (Accepted j) t = measured-sound (measurable (accepted-job bytes j t)) (accepted-job bytes j t .tolerance) job (rw t at e)

@@ -3,6 +3,7 @@ pub mod Sound
 pub mod Conditions
 pub mod Nearest
 pub mod NearestFacts
+pub mod Even
 pub mod Check
 pub mod CheckFacts
 pub mod Preparing

@@ -29,7 +29,7 @@ targetsIn (sound job) = job .targets
 targetsIn (unsound r) = []
 
 abbrev pub preparedOf : Soundness → Prepared
-preparedOf (sound job) = Ready (record { levels = length (job .curve); indices = job .indices; mark = job .mark })
+preparedOf (sound job) = Ready (record { levels = length (job .curve); indices = job .indices; mark = job .mark; tolerance = job .accepted .settings .tolerance })
 preparedOf (unsound r) = SentBack r
 
 -- an array for the curve, and one for the targets

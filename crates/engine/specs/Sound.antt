@@ -104,3 +104,5 @@ pub record IsSound (job : SoundJob) : Type 0 where
   pub last : getD (job .targets) 255 0 ≡ luminanceOf (job .indices .high .0)
   pub targets-rise : (p q : ℕ) → p < q → q < 256 → getD (job .targets) p 0 < getD (job .targets) q 0
   pub targets-in : (p : ℕ) → p < 256 → InTable (getD (job .targets) p 0)
+  -- w is 1,000 at most
+  pub tolerance : job .accepted .settings .tolerance ≤ 1000

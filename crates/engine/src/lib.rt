@@ -6,12 +6,14 @@ ghost use Rattle.gsdf.specs.Table.{tableB1};
 ghost use Rattle.engine.specs.Sound.{soundness, measured, rangeTests};
 ghost use Rattle.engine.specs.Preparing.{lightOf, sweepTests, Arrays, Climbs, InFront, Measurable, Prepares};
 ghost use Rattle.engine.specs.Nearest.{NearestPromise};
+ghost use Rattle.engine.specs.Even.{outcomeAnswer, EvenPromise};
 ghost use Rattle.engine.specs.Check.{limitOf, contrastAnswer, CheckPromise};
 ghost use Rattle.engine.specs.Checking.{CheckFront, JobChecked};
 use contrast::Contrast;
 use contrast::Limit;
 use contrast::Verdict;
 use curve::RoomMark;
+use even::Outcome;
 use record::Answer;
 use record::Class;
 use record::Job;
@@ -38,6 +40,8 @@ pub struct Frame {
     pub levels: usize,
     pub indices: IndexRange,
     pub mark: RoomMark,
+    // The allowed error, in thousandths of a target.
+    pub tolerance: u16,
 }
 
 pub enum Prepared {
@@ -54,6 +58,16 @@ pub struct NearestFigures {
 
 pub enum NearestAnswer {
     Made(NearestFigures),
+    Refused(Refusal),
+}
+
+// The figures of an even table: its worst step, in thousandths of the step that is wanted.
+pub struct EvenFigures {
+    pub worst: u64,
+}
+
+pub enum EvenAnswer {
+    Made(EvenFigures),
     Refused(Refusal),
 }
 
@@ -144,10 +158,12 @@ fn measure(
             target::fill_targets(&b1, low, range, PValue(255), targets);
             let highest = top.0;
             let levels = highest as usize + 1;
+            let tolerance = settings.tolerance;
             Prepared::Ready(Frame {
                 levels: levels,
                 indices: indices,
                 mark: mark,
+                tolerance: tolerance,
             })
         }
     }
@@ -206,6 +222,49 @@ pub fn nearest_table(bytes: &[u8], table: &mut [u16]) -> NearestAnswer
                 mark: mark,
                 error: error,
             })
+        }
+    }
+}
+
+fn even_answer(outcome: Outcome) -> EvenAnswer
+    ensures { λ r. ⌜ r ≡ outcomeAnswer outcome ⌝ }
+{
+    match outcome {
+        Outcome::Table(worst) => EvenAnswer::Made(EvenFigures { worst: worst }),
+        Outcome::NoTable => EvenAnswer::Refused(Refusal::NoTable),
+    }
+}
+
+// The even table of a record, into the front of a lent slice; the first 8,192 of the words lent are worked in.
+pub fn even_table(bytes: &[u8], table: &mut [u16], work: &mut [u32]) -> EvenAnswer
+    ensures { λ r. ⌜ EvenPromise (now (bytes .entry)) (now (table .entry)) (now (table .exit)) (now (work .entry)) (now (work .exit)) r ⌝ }
+{
+    if table.len() < 256 {
+        return EvenAnswer::Refused(Refusal::LentTooShort);
+    }
+    if work.len() < 8192 {
+        return EvenAnswer::Refused(Refusal::LentTooShort);
+    }
+    let mut curve = [0u32; 1024];
+    let mut targets = [0u32; 256];
+    let found = prepare(bytes, &mut curve, &mut targets);
+    match found {
+        Prepared::SentBack(r) => EvenAnswer::Refused(r),
+        Prepared::Ready(frame) => {
+            let levels = frame.levels;
+            let tolerance = frame.tolerance;
+            let mut starts = [0u16; 256];
+            let mut ends = [0u16; 256];
+            let outcome = even::fill_table(
+                &curve[..levels],
+                &targets,
+                tolerance,
+                &mut starts,
+                &mut ends,
+                table,
+                work,
+            );
+            even_answer(outcome)
         }
     }
 }

@@ -9,13 +9,13 @@ use native.Mathlib.Nat.{le-refl, le-trans, le-of-lt}
 use native.Mathlib.Numerals.{add-one}
 use native.Mathlib.Omega.{arith}
 use lib.Dec.{T, leb}
-use lib.ListN.{length, getD, set, drop, length-set}
+use lib.ListN.{length, getD, set, drop}
 use mir.Facts.{and-yes, yes-and, leb-yes, yes-leb, clash}
 use Rattle.laws.specs.Search.{any, lowest}
 use Rattle.laws.specs.Fill.{tab}
 use Rattle.laws.proofs.Cases.{is-yes, yes-is, le-or-lt}
 use Rattle.laws.proofs.Search.{lowest-passes, lowest-under, lowest-is}
-use Rattle.laws.proofs.Fill.{fill}
+use Rattle.laws.proofs.Fill.{Filled, filled-none, filled-more}
 use Rattle.reach.specs.Bits.{bitAt}
 use Rattle.reach.specs.Rows.{lit, stepFits, RowThere, First}
 use Rattle.reach.proofs.Rows.{IsLit, lit-is, is-lit}
@@ -140,8 +140,7 @@ pub record Writing (x : Given) (k : ℕ) (before after : List ℕ) (p target d :
   pub value : p < length (x .targets)
   pub target-is : target ≡ t x p
   pub level-is : d ≡ lowestPath (tablesWithin x k) p
-  pub table-is : after ≡ tab (lowestPath (tablesWithin x k)) p ++ drop p before
-  pub len : length after ≡ length before
+  pub entries : Filled (lowestPath (tablesWithin x k)) before after p
 
 module _ {x : Given} {k : ℕ} {starts ends words before : List ℕ} (asks : WriteAsks x k starts ends words before) where
   path : Path (tablesWithin x k) 0 (lowestPath (tablesWithin x k))
@@ -167,8 +166,7 @@ module _ {x : Given} {k : ℕ} {starts ends words before : List ℕ} (asks : Wri
     value = asks .workable .usable .some-target;
     target-is = refl;
     level-is = level-first asks (rw (a .from-is, a .to-is) at first);
-    table-is = refl;
-    len = refl;
+    entries = filled-none _ before;
   }
 
   module _ {after : List ℕ} {p target d : ℕ} (w : Writing x k before after p target d) where
@@ -179,15 +177,13 @@ module _ {x : Given} {k : ℕ} {starts ends words before : List ℕ} (asks : Wri
     entry-fits = omega (arith, w .value, asks .fits)
 
     -- the entry of p written
-    written : set after p d ≡ tab (lowestPath (tablesWithin x k)) (p + 1) ++ drop (p + 1) before
-    written =
-        ap₂ (λ (s : List ℕ) (n : ℕ). set s p n) (w .table-is) (w .level-is)
-        ∙ fill (lowestPath (tablesWithin x k)) before p entry-fits
+    pub written : Filled (lowestPath (tablesWithin x k)) before (set after p d) (p + 1)
+    written = filled-more _ before after p d (w .entries) entry-fits (w .level-is)
 
     pub writing-all : length (x .targets) - 1 ≤ p → set after p d ≡ lowestWithin x k ++ drop (length (x .targets)) before
     writing-all h =
         let e : p + 1 ≡ length (x .targets) = omega (arith, w .value) in
-        written ∙ ap (λ (n : ℕ). tab (lowestPath (tablesWithin x k)) n ++ drop n before) e
+        written .is ∙ ap (λ (n : ℕ). tab (lowestPath (tablesWithin x k)) n ++ drop n before) e
 
     module _ {nextFrom nextTo least most r : ℕ} (l : p < length (x .targets) - 1) (found : RunAt starts ends (p + 1) nextFrom nextTo) (span : IsSpan k (t x (p + 1) - target) least most)
         (first : First (x .curve) words (p + 1) nextTo (max d nextFrom) (F x d + least) r) where
@@ -213,7 +209,7 @@ module _ {x : Given} {k : ℕ} {starts ends words before : List ℕ} (asks : Wri
           ∙ ap (next (tablesWithin x k) p) (w .level-is) ∙ ap (lowestPath (tablesWithin x k)) (sym (add-one p))
 
       pub writing-more : Writing x k before (set after p d) (p + 1) (t x (p + 1)) r
-      writing-more = record { value = next-value (asks .workable) p l; target-is = refl; level-is = level-after; table-is = written; len = length-set after p d ∙ w .len }
+      writing-more = record { value = next-value (asks .workable) p l; target-is = refl; level-is = level-after; entries = written }
 
 -- ---- numbers that fit
 
@@ -222,7 +218,7 @@ module _ {x : Given} {k : ℕ} {starts ends words before after : List ℕ} {p ta
   level-fits = omega (arith, level-small asks w, asks .workable .levels)
 
   pub entry-inside : p < length after
-  entry-inside = omega (arith, w .value, asks .fits, w .len)
+  entry-inside = omega (arith, w .value, asks .fits, w .entries .len)
 
   module _ (l : p < length (x .targets) - 1) where
     pub next-rises : target < t x (p + 1)

@@ -1,13 +1,11 @@
 -- From the first row up. Assumes nothing.
 use Prim.Native.Nat.{_+_, _-_, _<_}
-use mathlib.Core.Path.{_∙_}
 use native.Mathlib.Nat.{le-of-lt}
 use native.Mathlib.Omega.{arith}
-use lib.ListN.{length-set}
 use Rattle.even.specs.Filling.{given}
 use Rattle.even.proofs.Bound.{next-value}
 use Rattle.even.proofs.Runs.{runs-there}
-use Rattle.even.proofs.Writing.{Writing, row-there, writing-first, writing-more, writing-all, level-small, level-fits, entry-inside, next-rises, next-step, least-fits}
+use Rattle.even.proofs.Writing.{Writing, row-there, writing-first, writing-more, writing-all, written, level-small, level-fits, entry-inside, next-rises, next-step, least-fits}
 use Rattle.even.proofs.write_table.Statement.{statement}
 use Rattle.even.proofs.write_table.Tie as tie
 use Rattle.even.proofs.write_table.Reads as reads
@@ -126,7 +124,7 @@ slice-write-table-2 c = entry-inside (c .before .before .before .before .before 
 
 -- src/lib.rt:266:1
 same-length : tie.Need-same-length Inv-loop μ-loop
-same-length c = length-set (c .before .loop .table) (c .before .loop .p) (c .before .loop .d) ∙ c .before .loop .inv .len
+same-length c = written (c .before .before .before .before .before .before .before .before .before .before .before .pre) (c .before .loop .inv) .len
 
 -- src/lib.rt:266:1
 returns : tie.Need-returns Inv-loop μ-loop

@@ -1,0 +1,80 @@
+-- The even table of a record: each way that the operation ends.
+-- Assumes nothing.
+use Prim.Native.Nat.{ℕ, _*_, _≤_, _<_}
+use mathlib.Core.Path.{_≡_, refl, sym, ap, _∙_}
+use mathlib.Core.List.{List}
+use mathlib.Core.Bool.{true, false}
+use native.Mathlib.Omega.{arith}
+use lib.ListN.{length, take}
+use borrow.Author.Tests.{le-ltb, lt-ltb}
+use Rattle.laws.proofs.Cases.{by}
+use Rattle.record.specs.declared.Refusal.{Refusal}
+use Rattle.record.specs.declared.Refusal.the-variants.{LentTooShort}
+use Rattle.even.specs.Even.{Given}
+use Rattle.even.specs.Table.{noTable}
+use Rattle.even.specs.Filling.{given, evenOutcome, FillAsks, EvenFilled}
+use Rattle.even.specs.declared.Outcome.{Outcome}
+use Rattle.engine.specs.Sound.{unsound, soundness}
+use Rattle.engine.specs.Even.{givenBy, outcomeAnswer, evenAnswer, evenLent, Enough, EvenPromise}
+use Rattle.engine.specs.declared.Frame.{Frame}
+use Rattle.engine.specs.declared.EvenAnswer.{EvenAnswer}
+use Rattle.engine.specs.declared.EvenAnswer.the-variants.{Refused}
+use Rattle.engine.proofs.Clashes.{table-refused}
+use Rattle.engine.proofs.EvenTerms.{workable}
+use Rattle.engine.proofs.EvenOutcomes.{promised}
+use Rattle.engine.proofs.Ready.{Readied}
+
+-- an answer other than a table leaves all words as they were
+words-kept : (x : Given) {before after words wordsAfter : List ℕ} {outcome : Outcome} → EvenFilled x before after words wordsAfter outcome
+    → (r : Refusal) → outcomeAnswer outcome ≡ Refused r → wordsAfter ≡ words
+unfolding evenOutcome
+words-kept x h r e = by (noTable x) (h .no-words) (λ f. absurd (table-refused (simp (h .answers, f) at e)))
+
+module _ (bytes before words : List ℕ) where
+  -- nothing was written
+  unchanged : (r : Refusal) → Refused r ≡ evenAnswer bytes (length before) (length words) → before ≡ evenLent bytes before (length words)
+      → EvenPromise bytes before before words words (Refused r)
+  unchanged r a e = promised bytes before words a e refl (λ i h. refl) (λ q f. refl)
+
+  pub few-entries : length before < 256 → EvenPromise bytes before before words words (Refused LentTooShort)
+  unfolding evenAnswer evenLent
+  few-entries h = unchanged LentTooShort (simp (lt-ltb _ _ h)) (simp (lt-ltb _ _ h))
+
+  pub few-words : 256 ≤ length before → length words < 8192 → EvenPromise bytes before before words words (Refused LentTooShort)
+  unfolding evenAnswer evenLent
+  few-words long h = unchanged LentTooShort (simp (le-ltb _ _ long, lt-ltb _ _ h)) (simp (le-ltb _ _ long, lt-ltb _ _ h))
+
+  module _ (enough : Enough before words) where
+    pub even-back : (r : Refusal) → soundness bytes ≡ unsound r → EvenPromise bytes before before words words (Refused r)
+    unfolding evenAnswer evenLent
+    even-back r e =
+        unchanged r (simp (le-ltb _ _ (enough .entries), le-ltb _ _ (enough .work), e)) (simp (le-ltb _ _ (enough .entries), le-ltb _ _ (enough .work), e))
+
+    module _ {f : Frame} {curve targets : List ℕ} (r : Readied (soundness bytes) f curve targets) where
+      given-is : given (take (f .levels) curve) targets (f .tolerance) ≡ givenBy (r .job)
+      given-is = rw (r .levels, r .values, r .tolerance)
+
+      pub fill-asks : (starts ends : List ℕ) → length starts ≡ 256 → length ends ≡ 256
+          → FillAsks (given (take (f .levels) curve) targets (f .tolerance)) starts ends before words
+      fill-asks starts ends n m = rw given-is (record {
+        lent = record {
+          workable = workable (r .known);
+          entries-fit = omega (arith, r .known .values, enough .entries);
+          rows-fit = omega (arith, r .known .values, enough .work);
+        };
+        starts-fit = omega (arith, r .known .values);
+        ends-fit = omega (arith, r .known .values);
+      })
+
+      pub even-filled : {after wordsAfter : List ℕ} {outcome : Outcome} {answer : EvenAnswer}
+          → EvenFilled (given (take (f .levels) curve) targets (f .tolerance)) before after words wordsAfter outcome → answer ≡ outcomeAnswer outcome
+          → EvenPromise bytes before after words wordsAfter answer
+      unfolding evenAnswer evenLent
+      even-filled {after} {wordsAfter} {outcome} filled a =
+          let h : EvenFilled (givenBy (r .job)) before after words wordsAfter outcome = rw given-is at filled in
+          promised bytes before words
+          (a ∙ ap outcomeAnswer (h .answers) ∙ simp (le-ltb _ _ (enough .entries), le-ltb _ _ (enough .work), r .is))
+          (h .table ∙ simp (le-ltb _ _ (enough .entries), le-ltb _ _ (enough .work), r .is))
+          (h .later-words .len)
+          (λ i l. h .later-words .words i (omega (arith, r .known .values)))
+          (λ q e. words-kept (givenBy (r .job)) h q (sym a ∙ e))
