@@ -8,14 +8,20 @@ use Rattle.record.specs.Refusals.{refusalNumber}
 use Rattle.record.specs.declared.Refusal.{Refusal}
 use Rattle.contrast.specs.declared.Verdict.{Verdict}
 use Rattle.engine.specs.Nearest.{NearestPromise}
+use Rattle.engine.specs.Even.{EvenPromise}
 use Rattle.engine.specs.Check.{CheckPromise}
+use Rattle.engine.specs.declared.EvenFigures.{EvenFigures}
+use Rattle.engine.specs.declared.EvenAnswer.{EvenAnswer}
+use Rattle.engine.specs.declared.EvenAnswer.the-variants as even
 use Rattle.engine.specs.declared.CheckAnswer.{CheckAnswer}
 use Rattle.engine.specs.declared.CheckAnswer.the-variants as check
 use Rattle.engine.specs.declared.NearestFigures.{NearestFigures}
 use Rattle.engine.specs.declared.NearestAnswer.{NearestAnswer}
 use Rattle.engine.specs.declared.NearestAnswer.the-variants.{Made, Refused}
 use Rattle.yepidlaw.specs.declared.NearestResult.{NearestResult}
+use Rattle.yepidlaw.specs.declared.EvenResult.{EvenResult}
 use Rattle.yepidlaw.specs.declared.CheckResult.{CheckResult}
+use Rattle.yepidlaw.specs.Even.{evenResultOf, EvenCall}
 use Rattle.yepidlaw.specs.Check.{verdictNumber, checkResultOf, CheckCall}
 use Rattle.yepidlaw.specs.Nearest.{markNumber, resultOf, NearestCall}
 
@@ -37,6 +43,25 @@ result-refused e f = rw (e, f)
 pub called : {bytes before after : List ℕ} {answer : NearestAnswer} {result : NearestResult}
     → NearestPromise bytes before after answer → result ≡ resultOf answer → NearestCall bytes before after result
 called h e = record { numbers = e ∙ ap resultOf (h .answers); table = h .table }
+
+-- ---- the even table
+
+pub even-made : {answer : EvenAnswer} {figures : EvenFigures} → answer ≡ even.Made figures → record { refusal = 0; worst = figures .worst } ≡ evenResultOf answer
+even-made e = rw e
+
+pub even-refused : {answer : EvenAnswer} {r : Refusal} {n : ℕ} → answer ≡ even.Refused r → n ≡ refusalNumber r
+    → record { refusal = n; worst = 0 } ≡ evenResultOf answer
+even-refused e f = rw (e, f)
+
+pub even-called : {bytes before after words wordsAfter : List ℕ} {answer : EvenAnswer} {result : EvenResult}
+    → EvenPromise bytes before after words wordsAfter answer → result ≡ evenResultOf answer → EvenCall bytes before after words wordsAfter result
+even-called h e = record {
+  numbers = e ∙ ap evenResultOf (h .answers);
+  table = h .table;
+  words-size = h .words-size;
+  words-later = h .words-later;
+  words-refused = λ f. h .words-refused (h .answers ∙ f);
+}
 
 -- ---- the check
 

@@ -1,10 +1,12 @@
 // The engine's operations through the C ABI; include/yepidlaw.h declares them.
 ghost use mathlib.Core.Path.{_≡_};
 ghost use Rattle.yepidlaw.specs.Nearest.{markNumber, resultOf, NearestCall};
+ghost use Rattle.yepidlaw.specs.Even.{evenResultOf, EvenCall};
 ghost use Rattle.yepidlaw.specs.Check.{verdictNumber, checkResultOf, CheckCall};
 use contrast::Verdict;
 use curve::RoomMark;
 use engine::CheckAnswer;
+use engine::EvenAnswer;
 use engine::NearestAnswer;
 
 #[repr(C)]
@@ -76,6 +78,43 @@ pub extern "C" fn yepidlaw_nearest(bytes: &[u8], table: &mut [u16]) -> NearestRe
 {
     let answer = engine::nearest_table(bytes, table);
     nearest_result(answer)
+}
+
+#[repr(C)]
+pub struct EvenResult {
+    // 0 where the table was made; else the refusal's number, and the worst step is 0.
+    pub refusal: u32,
+    // The worst step of the table, in thousandths of the step that is wanted.
+    pub worst: u64,
+}
+
+fn even_result(answer: EvenAnswer) -> EvenResult
+    ensures { λ r. ⌜ r ≡ evenResultOf answer ⌝ }
+{
+    match answer {
+        EvenAnswer::Made(figures) => {
+            let worst = figures.worst;
+            EvenResult {
+                refusal: 0,
+                worst: worst,
+            }
+        }
+        EvenAnswer::Refused(r) => {
+            let number = record::refusal_number(r);
+            EvenResult {
+                refusal: number,
+                worst: 0,
+            }
+        }
+    }
+}
+
+#[no_mangle]
+pub extern "C" fn yepidlaw_even(bytes: &[u8], table: &mut [u16], work: &mut [u32]) -> EvenResult
+    ensures { λ r. ⌜ EvenCall (now (bytes .entry)) (now (table .entry)) (now (table .exit)) (now (work .entry)) (now (work .exit)) r ⌝ }
+{
+    let answer = engine::even_table(bytes, table, work);
+    even_result(answer)
 }
 
 #[repr(C)]
