@@ -1,18 +1,19 @@
--- Bits in words of 32: read, set, and zero.
+-- Bits in words of 32: read and set.
 -- Assumes nothing.
 use mathlib.Core.Path.{_≡_, refl, sym, ap, _∙_}
 use mathlib.Core.Logic.{_⊎_, inl, inr, ⊎-elim, _≢_}
-use mathlib.Core.Bool.{true, false}
+use mathlib.Core.Bool.{true}
 use mathlib.Core.List.{List}
 use Prim.Native.Nat.{ℕ, suc, _+_, _-_, _*_, _/_, _%_, _^_, max, _≤_, _<_}
-use native.Mathlib.Nat.{pow-suc, mul-mod-left, one-mul, mod-eq-of-lt, div-eq-of-lt}
+use native.Mathlib.Nat.{pow-suc, mul-mod-left, one-mul, mod-eq-of-lt, div-eq-of-lt, zero-div, div-one, le-refl}
 use native.Mathlib.Omega.{arith}
 use lib.Dec.{eqb}
 use lib.ListN.{length, getD, length-set}
 use lib.Seq.{getD-set-same, getD-set-other}
-use lib.Bits.{bitAnd, bitOr, or-shr, or-step, and-mask}
-use lib.Arith.{digits-mod, lt-of-le-ne}
-use lib.Pow.{pow-pos, pow-lt, pow-add, shl-shr}
+use lib.Bits.{bitAnd, bitOr, or-shr, or-step, or-add-and, and-le-l, and-le-r, and-mask}
+use lib.Arith.{bin-ind, digits-mod, lt-of-le-ne}
+use lib.Pow.{pow-lt, pow-add, shl-shr, shr-shr, shr-le}
+use mir.Facts.{clash}
 use borrow.Author.Tests.{eq-eqb, eqb-true, eqb-false}
 use Rattle.laws.proofs.Cases.{by, le-or-lt}
 use Rattle.reach.specs.Bits.{digit, bitAt, marked}
@@ -61,22 +62,55 @@ power-other b k other =
     (le-or-lt k b)
 
 -- a word with digit b set
-set-here : (word b : ℕ) → digit (bitOr word (2 ^ b)) b ≡ 1
+pub set-here : (word b : ℕ) → digit (bitOr word (2 ^ b)) b ≡ 1
 set-here word b = digit-or word (2 ^ b) b ∙ omega (arith, power-here b, digit-le word b)
 
-set-other : (word b k : ℕ) → k ≢ b → digit (bitOr word (2 ^ b)) k ≡ digit word k
+pub set-other : (word b k : ℕ) → k ≢ b → digit (bitOr word (2 ^ b)) k ≡ digit word k
 set-other word b k other = digit-or word (2 ^ b) k ∙ omega (arith, power-other b k other)
 
+pub zero-digit : (k : ℕ) → digit 0 k ≡ 0
+unfolding digit
+zero-digit k = ap (λ (x : ℕ). x % 2) (zero-div (2 ^ k))
+
+-- a word with a digit that is 1 is not zero
+pub digit-pos : (word k : ℕ) → digit word k ≡ 1 → 0 < word
+unfolding digit
+digit-pos word k e = omega (arith, shr-le word k)
+
+-- and one that is not zero has such a digit
+pub some-digit {ℓ} : {X : Type ℓ} (word : ℕ) → 0 < word → ((k : ℕ) → digit word k ≡ 1 → X) → X
+unfolding digit
+some-digit {X} =
+    bin-ind (λ (word : ℕ). 0 < word → ((k : ℕ) → digit word k ≡ 1 → X) → X) (λ h found. clash h (le-refl 0))
+    (λ word half h found.
+    by (eqb (word % 2) 1)
+    (λ e. found 0 (ap (λ (x : ℕ). x % 2) (div-one word) ∙ eqb-true (word % 2) 1 e))
+    (λ e. half (omega (arith, eqb-false (word % 2) 1 e)) (λ k d. found (1 + k) (ap (λ (x : ℕ). x % 2) (sym (shr-shr word 1 k)) ∙ d))))
+
+-- two words together are zero where both are
+pub or-left : (a b : ℕ) → a ≤ bitOr a b
+or-left a b = omega (arith, or-add-and a b, and-le-r a b)
+
+pub or-right : (a b : ℕ) → b ≤ bitOr a b
+or-right a b = omega (arith, or-add-and a b, and-le-l a b)
+
+pub or-either : (a b : ℕ) → 0 < bitOr a b → (0 < a) ⊎ (0 < b)
+or-either a b h = ⊎-elim (λ (l : a ≤ 0). inr (omega (arith, or-add-and a b))) (λ l. inl l) (le-or-lt a 0)
+
 -- ---- places
+
+-- the bit of level d in a row that starts at word `row`
+pub place-bit : (words : List ℕ) (row d : ℕ) → bitAt words (row * 32 + d) ≡ eqb (digit (getD words (row + d / 32) 0) (d % 32)) 1
+unfolding bitAt
+place-bit words row d =
+    let i : (row * 32 + d) / 32 ≡ row + d / 32 = omega arith in
+    let k : (row * 32 + d) % 32 ≡ d % 32 = omega arith in
+    rw (i, k) refl
 
 -- a bit goes by its word
 pub bit-same : (a b : List ℕ) (place : ℕ) → getD a (place / 32) 0 ≡ getD b (place / 32) 0 → bitAt a place ≡ bitAt b place
 unfolding bitAt
 bit-same a b place e = ap (λ (word : ℕ). eqb (digit word (place % 32)) 1) e
-
-pub zero-bit : (words : List ℕ) (place : ℕ) → getD words (place / 32) 0 ≡ 0 → bitAt words place ≡ false
-unfolding bitAt digit
-zero-bit words place e = rw (e, div-eq-of-lt (pow-pos (place % 32))) refl
 
 -- ---- a place marked
 

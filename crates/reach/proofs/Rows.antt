@@ -1,20 +1,20 @@
 -- The lit levels of a row, and what other rows keep.
 -- Assumes nothing.
-use mathlib.Core.Path.{_≡_, refl, ap, _∙_, fun-ext}
+use mathlib.Core.Path.{_≡_, refl, sym, ap, _∙_, fun-ext}
 use mathlib.Core.Logic.{_⊎_, inl, inr, ⊎-elim}
 use mathlib.Core.Bool.{Bool, true, false, _&&_, and-true, and-false}
 use mathlib.Core.List.{List}
-use Prim.Native.Nat.{ℕ, _+_, _*_, _/_, _≤_, _<_}
+use Prim.Native.Nat.{ℕ, _+_, _*_, _/_, _%_, _≤_, _<_}
 use native.Mathlib.Omega.{arith}
-use lib.Dec.{leb, ltb}
+use lib.Dec.{leb, ltb, eqb}
 use lib.ListN.{getD, set, length-set}
 use lib.Seq.{getD-set-other}
 use mir.Facts.{and-yes, leb-yes, ltb-yes, clash}
 use borrow.Author.Tests.{leb-true, ltb-true, le-leb, lt-ltb}
 use Rattle.laws.proofs.Cases.{by, is-yes, yes-is}
-use Rattle.reach.specs.Bits.{bitAt, marked}
+use Rattle.reach.specs.Bits.{digit, bitAt, marked}
 use Rattle.reach.specs.Rows.{lit, RowKept}
-use Rattle.reach.proofs.Bits.{bit-same}
+use Rattle.reach.proofs.Bits.{bit-same, place-bit}
 
 -- ---- tests within a run
 
@@ -25,8 +25,12 @@ in-run from to d x y h =
     (λ e. by (ltb d to) (λ f. ap (λ (b : Bool). leb from d && (ltb d to && b)) (h (leb-true from d e) (ltb-true d to f))) (λ f. rw f))
     (λ e. rw e)
 
-pub never-in-run : (from to d : ℕ) → (leb from d && (ltb d to && false)) ≡ false
+never-in-run : (from to d : ℕ) → (leb from d && (ltb d to && false)) ≡ false
 never-in-run from to d = rw (and-false (ltb d to)) (and-false (leb from d))
+
+-- in a run with no levels nothing counts
+pub none-in-run : (from to d : ℕ) (x : Bool) → to ≤ from → (leb from d && (ltb d to && x)) ≡ false
+none-in-run from to d x h = in-run from to d x false (λ a b. clash b (omega arith)) ∙ never-in-run from to d
 
 pub all-in-run : (from to d : ℕ) → (leb from d && (ltb d to && true)) ≡ (leb from d && ltb d to)
 all-in-run from to d = rw (and-true (ltb d to)) refl
@@ -49,7 +53,25 @@ module _ (words : List ℕ) (p from to d : ℕ) where
   unfolding lit
   is-lit h = rw (le-leb from d (h .low), lt-ltb d to (h .high)) (h .bit)
 
+  pub lit-none : to ≤ from → lit words p from to d ≡ false
+  unfolding lit
+  lit-none h = none-in-run from to d _ h
+
+  -- it is lit in a run that starts elsewhere too
+  pub lit-moved : lit words p from to d ≡ true → (other : ℕ) → other ≤ d → lit words p other to d ≡ true
+  unfolding lit
+  lit-moved e other l =
+      let at = lit-is e in
+      rw (le-leb other d l, lt-ltb d to (at .high)) (at .bit)
+
 -- ---- rows
+
+-- the row of p starts at word 32p
+pub row-place : (words : List ℕ) (p d : ℕ) → bitAt words (p * 32 * 32 + d) ≡ bitAt words (p * 1024 + d)
+row-place words p d = ap (bitAt words) (omega arith)
+
+pub row-bit : (words : List ℕ) (p d : ℕ) → bitAt words (p * 1024 + d) ≡ eqb (digit (getD words (p * 32 + d / 32) 0) (d % 32)) 1
+row-bit words p d = sym (row-place words p d) ∙ place-bit words (p * 32) d
 
 -- where two lists of words agree on row q, its lit levels are the same
 pub lit-same : (a b : List ℕ) (q from to d : ℕ) → d < 1024 → ((i : ℕ) → q * 32 ≤ i → i < q * 32 + 32 → getD a i 0 ≡ getD b i 0)
@@ -90,6 +112,3 @@ module _ {before words : List ℕ} {p : ℕ} (h : RowKept before words p) where
   pub kept-mark : (d : ℕ) → d < 1024 → RowKept before (marked words (p * 1024 + d)) p
   unfolding marked
   kept-mark d l = kept-set ((p * 1024 + d) / 32) _ (omega arith) (omega arith)
-
-  pub kept-after : {first : List ℕ} → RowKept first before p → RowKept first words p
-  kept-after g = record { len = h .len ∙ g .len; words = λ i o. h .words i o ∙ g .words i o }

@@ -3,7 +3,7 @@
 use Prim.Native.Nat.{ℕ, _+_, _*_, _^_, max, _≤_, _<_}
 use mathlib.Core.Path.{_≡_}
 use mathlib.Core.Logic.{_⊎_}
-use mathlib.Core.Bool.{Bool, true, false, _&&_}
+use mathlib.Core.Bool.{Bool, true, _&&_}
 use mathlib.Core.List.{List}
 use lib.Dec.{leb, ltb}
 use lib.ListN.{length, getD}
@@ -33,11 +33,6 @@ pub record RowThere (words : List ℕ) (p to : ℕ) : Type 0 where
   pub few : p ≤ 2 ^ 32
   pub inside : p * 32 + 32 ≤ length words
   pub levels : to ≤ 1024
-
--- no level of the run is lit
-pub record RunDark (before after : List ℕ) (p from to : ℕ) : Type 0 where
-  pub kept : RowKept before after p
-  pub dark : (d : ℕ) → lit after p from to d ≡ false
 
 -- every level of the run is lit
 pub record RunLit (before after : List ℕ) (p from to : ℕ) : Type 0 where
