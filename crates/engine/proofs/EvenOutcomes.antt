@@ -32,17 +32,17 @@ use Rattle.engine.proofs.EvenTerms.{workable, known, Spells, spells, in
 
 module _ {bytes : List ℕ} {job : Job} {x : lists.Given} (ok : Workable x) (s : Spells bytes job x) where
   -- no list keeps within the error exactly when the computed test finds a P-value without a level
-  none-within : noTable x ≡ true → (levels : List ℕ) → WithinError bytes job levels → ⊥
+  pub none-within : noTable x ≡ true → (levels : List ℕ) → WithinError bytes job levels → ⊥
   none-within e levels h = no-list x (ok .usable) .0 (yes-is e) levels (in-lists s h)
 
-  no-level : ((levels : List ℕ) → WithinError bytes job levels → ⊥) → noTable x ≡ true
+  pub no-level : ((levels : List ℕ) → WithinError bytes job levels → ⊥) → noTable x ≡ true
   no-level h = is-yes _ (no-list x (ok .usable) .1 (λ levels v. h levels (in-terms s v)))
 
   module _ (some : noTable x ≡ false) where
     is-even : EvenTable bytes job (evenTable x)
     is-even = even-in-terms s (even-is x (ok .usable) (no-is some))
 
-    worst-least : leastWorst x ≡ worstStep bytes job (evenTable x)
+    pub worst-least : leastWorst x ≡ worstStep bytes job (evenTable x)
     worst-least = sym (even-worst x (ok .usable) (no-is some)) ∙ worst-same s (is-even .allowed .within)
 
   -- ---- what comes of it
@@ -107,11 +107,11 @@ module _ (bytes before words : List ℕ) where
       (le-or-lt 256 (length before))
 
   module _ {job : Job} (enough : Enough before words) (g : GoesOn bytes job) where
-    answer-is : evenAnswer bytes (length before) (length words) ≡ outcomeAnswer (evenOutcome (givenBy (madeBy bytes job)))
+    pub answer-is : evenAnswer bytes (length before) (length words) ≡ outcomeAnswer (evenOutcome (givenBy (madeBy bytes job)))
     unfolding evenAnswer
     answer-is = simp (le-ltb _ _ (enough .entries), le-ltb _ _ (enough .work), went-on g)
 
-    entries-are : evenLent bytes before (length words) ≡ evenOver (givenBy (madeBy bytes job)) before
+    pub entries-are : evenLent bytes before (length words) ≡ evenOver (givenBy (madeBy bytes job)) before
     unfolding evenLent
     entries-are = simp (le-ltb _ _ (enough .entries), le-ltb _ _ (enough .work), went-on g)
 

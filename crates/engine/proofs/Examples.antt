@@ -10,6 +10,7 @@ use Rattle.gsdf.specs.DisplayFunction.{jndLuminance, luminanceAfter, luminanceO
 use Rattle.gsdf.proofs.Laws.{index-is}
 use Rattle.curve.proofs.Examples.{first-third, second-third}
 use Rattle.nearest.proofs.Examples.{tie-low, past-tie, tie-plateau}
+use Rattle.even.proofs.Examples.{rounded-up, no-step}
 use Rattle.contrast.proofs.Examples.{tenth-deviates, tenth-passes, past-tenth-deviates, past-tenth-fails, fall-deviates}
 use Rattle.engine.specs.MarkedExamples.{MarkedExamples}
 
@@ -35,6 +36,8 @@ marked-examples = record {
   nearest-15 = tie-low;
   nearest-16 = past-tie;
   nearest-25 = tie-plateau;
+  step-22-21 = rounded-up;
+  step-0-17 = no-step;
   deviation-9-31 = tenth-deviates;
   limit-9-31 = tenth-passes;
   deviation-900-3101 = past-tenth-deviates;

@@ -12,6 +12,7 @@ pub mod NearestFacts
 pub mod EvenTerms
 pub mod EvenOutcomes
 pub mod Even
+pub mod EvenFacts
 pub mod Checking
 pub mod CheckTests
 pub mod CheckOutcomes

@@ -4,6 +4,7 @@ pub mod Conditions
 pub mod Nearest
 pub mod NearestFacts
 pub mod Even
+pub mod EvenFacts
 pub mod Check
 pub mod CheckFacts
 pub mod Preparing

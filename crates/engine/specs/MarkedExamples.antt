@@ -1,4 +1,4 @@
--- The marked examples of document 01, of the layers that stand so far. `indexOf` is its J, `luminanceOf` its G, `curveAt` its F;
+-- The marked examples of document 01. `indexOf` is its J, `luminanceOf` its G, `curveAt` its F; `stepDeviation` takes f and g;
 -- `deviationOf` and `keepsLimit` take p, s, c and h.
 use mathlib.Core.Path.{_≡_}
 use mathlib.Core.Bool.{true, false}
@@ -7,6 +7,7 @@ use lib.IntN.{pos, negℤ}
 use Rattle.gsdf.specs.DisplayFunction.{luminanceOf, indexOf}
 use Rattle.curve.specs.Curve.{curveAt}
 use Rattle.nearest.specs.Nearest.{nearestLevel}
+use Rattle.even.specs.Even.{stepDeviation}
 use Rattle.contrast.specs.Deviation.{deviationOf, keepsLimit}
 use Rattle.contrast.specs.Check.{limitParts}
 use Rattle.record.specs.declared.Class.the-variants.{Primary}
@@ -24,6 +25,8 @@ pub record MarkedExamples : Type 0 where
   pub nearest-15 : nearestLevel (10 ∷ 20 ∷ 20 ∷ 30 ∷ []) 15 ≡ 0
   pub nearest-16 : nearestLevel (10 ∷ 20 ∷ 20 ∷ 30 ∷ []) 16 ≡ 1
   pub nearest-25 : nearestLevel (10 ∷ 20 ∷ 20 ∷ 30 ∷ []) 25 ≡ 1
+  pub step-22-21 : stepDeviation 22 21 ≡ 48
+  pub step-0-17 : stepDeviation 0 17 ≡ 1000
   pub deviation-9-31 : deviationOf 9 31 1 3 ≡ pos 100
   pub limit-9-31 : keepsLimit (limitParts (limitOf Primary)) 9 31 1 3 ≡ true
   pub deviation-900-3101 : deviationOf 900 3101 1 3 ≡ pos 100
