@@ -12,7 +12,7 @@ use Rattle.record.specs.declared.Refusal.{Refusal}
 use Rattle.record.specs.declared.Refusal.the-variants.{LentTooShort}
 use Rattle.even.specs.Even.{Given}
 use Rattle.even.specs.Table.{noTable}
-use Rattle.even.specs.Filling.{given, evenOutcome, FillAsks, EvenFilled}
+use Rattle.even.specs.Filled.{given, evenOutcome, FillAsks, EvenFilled}
 use Rattle.even.specs.declared.Outcome.{Outcome}
 use Rattle.engine.specs.Sound.{unsound, soundness}
 use Rattle.engine.specs.Even.{givenBy, outcomeAnswer, evenAnswer, evenLent, Enough, EvenPromise}

@@ -11,7 +11,7 @@ use Rattle.record.specs.declared.Refusal.{Refusal}
 use Rattle.record.specs.declared.Job.{Job}
 use Rattle.even.specs.Even as lists
 use Rattle.even.specs.Table.{noTable, evenTable}
-use Rattle.even.specs.Filling.{evenOutcome, evenOver, Workable}
+use Rattle.even.specs.Filled.{evenOutcome, evenOver, Workable}
 use Rattle.even.proofs.Even.{even-is, even-unique}
 use Rattle.engine.specs.Conditions.{GoesOn, madeBy}
 use Rattle.engine.specs.Even.{givenBy, outcomeAnswer, evenAnswer, evenLent, WithinError, worstStep, EvenTable, EvenValues, worst, number, evenValues, Enough, EvenOutcome, short, back, none, made, EvenPromise}

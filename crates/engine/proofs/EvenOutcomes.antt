@@ -16,7 +16,7 @@ use Rattle.record.specs.declared.Refusal.the-variants.{LentTooShort, NoTable}
 use Rattle.record.specs.declared.Job.{Job}
 use Rattle.even.specs.Even as lists
 use Rattle.even.specs.Table.{noTable, leastWorst, evenTable}
-use Rattle.even.specs.Filling.{evenOutcome, evenOver, Workable}
+use Rattle.even.specs.Filled.{evenOutcome, evenOver, Workable}
 use Rattle.even.proofs.Even.{no-list, even-is, even-worst, even-unique}
 use Rattle.engine.specs.Sound.{Soundness}
 use Rattle.engine.specs.Conditions.{GoesOn, madeBy, Standing, stands, returned}

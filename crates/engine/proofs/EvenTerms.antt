@@ -17,7 +17,7 @@ use Rattle.curve.proofs.Laws as curve
 use Rattle.target.proofs.Laws as target
 use Rattle.target.specs.Target.{rangeOf}
 use Rattle.even.specs.Even as lists
-use Rattle.even.specs.Filling.{Workable}
+use Rattle.even.specs.Filled.{Workable}
 use Rattle.engine.specs.Sound.{SoundJob, IsSound, addedOf, topOf}
 use Rattle.engine.specs.Conditions.{F, jlo, N, GoesOn, madeBy}
 use Rattle.engine.specs.Even.{givenBy, w, t, WithinError, AllowedTable, deviationAt, worstStep, EvenTable}

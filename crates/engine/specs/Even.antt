@@ -14,7 +14,7 @@ use Rattle.record.specs.declared.Refusal.the-variants.{LentTooShort, NoTable}
 use Rattle.record.specs.declared.Job.{Job}
 use Rattle.target.specs.Target.{targetAt}
 use Rattle.even.specs.Even.{Given, stepDeviation, FirstDifference}
-use Rattle.even.specs.Filling.{given, evenOutcome, evenOver}
+use Rattle.even.specs.Filled.{given, evenOutcome, evenOver}
 use Rattle.even.specs.declared.Outcome.{Outcome}
 use Rattle.even.specs.declared.Outcome.the-variants as outcome
 use Rattle.engine.specs.Sound.{SoundJob, Soundness, sound, unsound, soundness, topOf}

@@ -21,7 +21,8 @@ use Rattle.laws.proofs.Fill.{getD-tab, Filled, filled-none, filled-more, filled
 use Rattle.even.specs.Even.{Given, F, t, stepDeviation, deviationAt, worstStep}
 use Rattle.even.specs.Table.{allowedAt, noLevel, noTable, lowestLevels}
 use Rattle.even.specs.Runs.{brightest, runFrom, runTo, IsRun, NotAbove, AreRuns}
-use Rattle.even.specs.Filling.{Workable, RunsAsk, firstBound, RunsFound}
+use Rattle.even.specs.Filled.{Workable}
+use Rattle.even.specs.Filling.{RunsAsk, firstBound, RunsFound}
 use Rattle.even.specs.declared.Outcome.{Outcome}
 use Rattle.even.specs.declared.Outcome.the-variants.{Table, NoTable}
 use Rattle.even.proofs.Runs.{reaching-top, is-darker, not-above, run-some, some-allowed, lowest-from, from-rises}

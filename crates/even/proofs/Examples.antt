@@ -8,7 +8,7 @@ use Rattle.laws.specs.Fill.{tab}
 use Rattle.even.specs.Even.{Given, stepDeviation, worstStep}
 use Rattle.even.specs.Paths.{goesOn, good, next, lowestPath}
 use Rattle.even.specs.Table.{allowedAt, noTable, stepWithin, feasible, lowestLevels, leastWorst, evenTable}
-use Rattle.even.specs.Filling.{given, evenOutcome}
+use Rattle.even.specs.Filled.{given, evenOutcome}
 use Rattle.even.specs.declared.Outcome.the-variants.{NoTable}
 
 -- ---- the step deviation: document 01's marked examples

@@ -17,7 +17,8 @@ use Rattle.even.specs.Even.{Given, F, t, targetStep}
 use Rattle.even.specs.Table.{allowedAt, goodAt, feasible, tablesWithin}
 use Rattle.even.specs.Runs.{brightest, runFrom, runTo, IsRun, RunAt}
 use Rattle.even.specs.Steps.{leastStep, mostStep, IsSpan}
-use Rattle.even.specs.Filling.{Workable, RowsGood, KeptFrom, RowsAsk, RowsFilled}
+use Rattle.even.specs.Filled.{Workable, KeptFrom}
+use Rattle.even.specs.Filling.{RowsGood, RowsAsk, RowsFilled}
 use Rattle.even.proofs.Paths.{good-last}
 use Rattle.even.proofs.Runs.{reaching-top, run-found}
 use Rattle.even.proofs.Even.{every-level}

@@ -12,7 +12,8 @@ use Rattle.laws.proofs.Cases.{is-yes, yes-is, no-is}
 use Rattle.laws.proofs.Numbers.{max-le}
 use Rattle.even.specs.Even.{Given, F, t, AllowedTable, targetStep, worstStep}
 use Rattle.even.specs.Table.{feasible, noTable, lowestLevels, leastWorst}
-use Rattle.even.specs.Filling.{Workable, LastLit, RowsGood, KeptFrom, RowsAsk, RowsFilled, SearchAsks, Searched}
+use Rattle.even.specs.Filled.{Workable, KeptFrom}
+use Rattle.even.specs.Filling.{LastLit, RowsGood, RowsAsk, RowsFilled, SearchAsks, Searched}
 use Rattle.even.proofs.Even.{feasible-more, low-allowed, every-level, bound-feasible, least-is}
 use Rattle.even.proofs.Rows.{kept-all, kept-then, last-kept}
 use Rattle.even.proofs.Steps.{deviation-top}

@@ -13,7 +13,8 @@ use Rattle.reach.specs.Rows.{lit, RowThere, RunLit}
 use Rattle.even.specs.Even.{Given, t}
 use Rattle.even.specs.Table.{noTable, feasible, lowestLevels, leastWorst, evenTable}
 use Rattle.even.specs.Runs.{runFrom, runTo, IsRun, RunAt}
-use Rattle.even.specs.Filling.{RunsFound, litAt, LastLit, KeptFrom, SearchAsks, Searched, WriteAsks, lowestWithin, Lent, MakeAsks, Made, evenOutcome, evenOver, EvenFilled}
+use Rattle.even.specs.Filled.{KeptFrom, Lent, evenOutcome, evenOver, EvenFilled}
+use Rattle.even.specs.Filling.{RunsFound, litAt, LastLit, SearchAsks, Searched, WriteAsks, lowestWithin, MakeAsks, Made}
 use Rattle.even.specs.declared.Outcome.{Outcome}
 use Rattle.even.specs.declared.Outcome.the-variants.{Table, NoTable}
 use Rattle.even.proofs.Runs.{reaching-top, allowed-run, run-found}

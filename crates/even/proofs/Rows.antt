@@ -19,7 +19,8 @@ use Rattle.even.specs.Even.{Given, F, t, targetStep, Usable}
 use Rattle.even.specs.Table.{allowedAt, noTable, stepWithin, tablesWithin, goodAt, feasible}
 use Rattle.even.specs.Runs.{runFrom, runTo}
 use Rattle.even.specs.Steps.{leastStep, mostStep}
-use Rattle.even.specs.Filling.{Workable, litAt, RowsGood, LastLit, KeptFrom, RowsFilled}
+use Rattle.even.specs.Filled.{Workable, KeptFrom}
+use Rattle.even.specs.Filling.{litAt, RowsGood, LastLit, RowsFilled}
 use Rattle.even.proofs.Paths.{good-step, good-last, lowest-path, path-from, path-good}
 use Rattle.even.proofs.Runs.{allowed-run}
 use Rattle.even.proofs.Steps.{step-fits}

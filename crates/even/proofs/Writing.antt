@@ -24,7 +24,8 @@ use Rattle.even.specs.Paths.{good, next, lowestPath}
 use Rattle.even.specs.Table.{stepWithin, tablesWithin, goodAt, feasible}
 use Rattle.even.specs.Runs.{runFrom, runTo, RunAt}
 use Rattle.even.specs.Steps.{leastStep, mostStep, IsSpan}
-use Rattle.even.specs.Filling.{Workable, litAt, RowsGood, WriteAsks, lowestWithin}
+use Rattle.even.specs.Filled.{Workable}
+use Rattle.even.specs.Filling.{litAt, RowsGood, WriteAsks, lowestWithin}
 use Rattle.even.proofs.Paths.{Path, path-from, path-good, lowest-path, next-good, next-is}
 use Rattle.even.proofs.Runs.{reaching-top, run-found}
 use Rattle.even.proofs.Steps.{step-fits}

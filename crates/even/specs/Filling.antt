@@ -1,28 +1,18 @@
--- What the even table's code asks, and what it leaves in the lent slices.
-use Prim.Native.Nat.{ℕ, suc, _+_, _-_, _*_, _^_, _≤_, _<_}
+-- What the parts of the even table's code ask and leave.
+use Prim.Native.Nat.{ℕ, _-_, _*_, _^_, _≤_, _<_}
 use mathlib.Core.Path.{_≡_}
 use mathlib.Core.Bool.{Bool, true, false, cond}
 use mathlib.Core.List.{List, _++_}
-use lib.ListN.{length, getD, drop}
+use lib.ListN.{length, drop}
 use Rattle.laws.specs.Fill.{tab}
-use Rattle.reach.specs.Rows.{lit, RowKept}
-use Rattle.even.specs.Even.{Given, F, t, Usable, worstStep}
+use Rattle.reach.specs.Rows.{lit}
+use Rattle.even.specs.Even.{Given, worstStep}
 use Rattle.even.specs.Paths.{lowestPath}
 use Rattle.even.specs.Table.{allowedAt, noTable, goodAt, feasible, tablesWithin, lowestLevels, leastWorst, evenTable}
 use Rattle.even.specs.Runs.{runFrom, runTo, AreRuns}
+use Rattle.even.specs.Filled.{Workable, Lent, KeptFrom}
 use Rattle.even.specs.declared.Outcome.{Outcome}
 use Rattle.even.specs.declared.Outcome.the-variants.{Table, NoTable}
-
-abbrev pub given : (curve targets : List ℕ) (tolerance : ℕ) → Given
-given curve targets tolerance = record { curve = curve; targets = targets; tolerance = tolerance }
-
--- a row has 1,024 bits, and what is computed of luminances below 2^26 fits 64 bits
-pub record Workable (x : Given) : Type 0 where
-  pub usable : Usable x
-  pub levels : length (x .curve) ≤ 1024
-  pub values : length (x .targets) ≤ 65536
-  pub curve-small : (d : ℕ) → d < length (x .curve) → F x d < 2 ^ 26
-  pub targets-small : (p : ℕ) → p < length (x .targets) → t x p < 2 ^ 26
 
 -- what finding the runs asks: a place for each end
 pub record RunsAsk (x : Given) (starts ends : List ℕ) : Type 0 where
@@ -51,11 +41,6 @@ pub record RowsGood (x : Given) (words : List ℕ) (k p : ℕ) : Type 0 where
 pub record LastLit (x : Given) (words : List ℕ) : Type 0 where
   pub there : 32 * length (x .targets) ≤ length words
   pub lit-last : (d : ℕ) → d < length (x .curve) → litAt x words (length (x .targets) - 1) d ≡ allowedAt x (length (x .targets) - 1) d
-
--- words from the row of p on are as before
-pub record KeptFrom (p : ℕ) (before after : List ℕ) : Type 0 where
-  pub len : length after ≡ length before
-  pub words : (i : ℕ) → 32 * p ≤ i → getD after i 0 ≡ getD before i 0
 
 -- what filling the rows for k asks
 pub record RowsAsk (x : Given) (k : ℕ) (starts ends words : List ℕ) : Type 0 where
@@ -99,18 +84,6 @@ pub record WriteAsks (x : Given) (k : ℕ) (starts ends words before : List ℕ)
 abbrev pub lowestWithin : Given → (k : ℕ) → List ℕ
 lowestWithin x k = tab (lowestPath (tablesWithin x k)) (length (x .targets))
 
--- what the table asks: as many entries as P-values, and 32 words for each
-pub record Lent (x : Given) (before words : List ℕ) : Type 0 where
-  pub workable : Workable x
-  pub entries-fit : length (x .targets) ≤ length before
-  pub rows-fit : 32 * length (x .targets) ≤ length words
-
--- and places for the ends of the runs
-pub record FillAsks (x : Given) (starts ends before words : List ℕ) : Type 0 where
-  pub lent : Lent x before words
-  pub starts-fit : length (x .targets) ≤ length starts
-  pub ends-fit : length (x .targets) ≤ length ends
-
 -- what making it asks: the runs are found, and some table is allowed
 pub record MakeAsks (x : Given) (bound : ℕ) (starts ends before words : List ℕ) : Type 0 where
   pub lent : Lent x before words
@@ -123,18 +96,3 @@ pub record Made (x : Given) (before after words wordsAfter : List ℕ) (worst : 
   pub worst-is : worst ≡ leastWorst x
   pub table : after ≡ evenTable x ++ drop (length (x .targets)) before
   pub later-words : KeptFrom (length (x .targets)) words wordsAfter
-
--- what comes of it
-unfoldable pub evenOutcome : Given → Outcome
-evenOutcome x = cond (noTable x) NoTable (Table (leastWorst x))
-
--- the lent entries afterwards: the even table and later ones as they were, or all as they were
-unfoldable pub evenOver : Given → (before : List ℕ) → List ℕ
-evenOver x before = cond (noTable x) before (evenTable x ++ drop (length (x .targets)) before)
-
--- what the function leaves: the table, its worst step, the words after the rows as they were, and all of them where there is no table
-pub record EvenFilled (x : Given) (before after words wordsAfter : List ℕ) (outcome : Outcome) : Type 0 where
-  pub answers : outcome ≡ evenOutcome x
-  pub table : after ≡ evenOver x before
-  pub later-words : KeptFrom (length (x .targets)) words wordsAfter
-  pub no-words : noTable x ≡ true → wordsAfter ≡ words

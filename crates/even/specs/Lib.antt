@@ -3,4 +3,5 @@ pub mod Paths
 pub mod Table
 pub mod Runs
 pub mod Steps
+pub mod Filled
 pub mod Filling

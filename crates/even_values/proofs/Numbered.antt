@@ -4,7 +4,7 @@ use Prim.Native.Nat.{ℕ}
 use mathlib.Core.List.{List}
 use mathlib.Core.Path.{_≡_, ap, subst, _∙_}
 use Rattle.even.specs.Even.{Given}
-use Rattle.even.specs.Filling.{EvenFilled}
+use Rattle.even.specs.Filled.{EvenFilled}
 use Rattle.even.specs.declared.Outcome.{Outcome}
 use Rattle.even_values.specs.declared.EvenValues.{EvenValues}
 use Rattle.even_values.specs.Values.{valuesOf, ValuesFilled}

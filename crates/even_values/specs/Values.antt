@@ -3,7 +3,7 @@ use Prim.Native.Nat.{ℕ}
 use mathlib.Core.Path.{_≡_}
 use mathlib.Core.List.{List}
 use Rattle.even.specs.Even.{Given}
-use Rattle.even.specs.Filling.{evenOutcome, EvenFilled}
+use Rattle.even.specs.Filled.{evenOutcome, EvenFilled}
 use Rattle.even.specs.declared.Outcome.{Outcome}
 use Rattle.even.specs.declared.Outcome.the-variants.{Table, NoTable}
 use Rattle.even_values.specs.declared.EvenValues.{EvenValues}

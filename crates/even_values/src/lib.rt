@@ -1,6 +1,6 @@
 // The even table of any curve and targets through the C ABI, on bare numbers: for the comparison by running and for the benchmark.
 ghost use mathlib.Core.Path.{_≡_};
-ghost use Rattle.even.specs.Filling.{given, FillAsks};
+ghost use Rattle.even.specs.Filled.{given, FillAsks};
 ghost use Rattle.even_values.specs.Values.{valuesOf, ValuesFilled};
 use even::Outcome;
 

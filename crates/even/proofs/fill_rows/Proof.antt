@@ -3,7 +3,7 @@ use Prim.Native.Nat.{_-_, _<_, _≤_}
 use native.Mathlib.Nat.{le-of-lt}
 use native.Mathlib.Omega.{arith}
 use borrow.Author.Tests.{not-true, not-false}
-use Rattle.even.specs.Filling.{given}
+use Rattle.even.specs.Filled.{given}
 use Rattle.even.proofs.Bound.{last-value}
 use Rattle.even.proofs.Runs.{runs-there}
 use Rattle.even.proofs.Filling.{RowsSoFar, rows-first, rows-all, lower-value, lower-rises, lower-step, row-asks, rows-kept, rows-none, rows-next}

@@ -2,7 +2,7 @@
 use Prim.Native.Nat.{_+_, _-_, _<_, _≤_}
 use native.Mathlib.Nat.{le-of-lt}
 use native.Mathlib.Omega.{arith}
-use Rattle.even.specs.Filling.{given}
+use Rattle.even.specs.Filled.{given}
 use Rattle.even.proofs.Bound.{at-run, run-start, run-on, next-value, at-level, found-none, bounding-level, bounding-rises, bounding-climbs, Finding, starts-inside, ends-inside, from-fits, to-fits, starts-kept, ends-kept, finding-first, finding-more, found-all}
 use Rattle.even.proofs.find_runs.Statement.{statement}
 use Rattle.even.proofs.find_runs.Tie as tie

@@ -3,7 +3,7 @@ use Prim.Native.Nat.{_-_, _≤_}
 use mathlib.Core.Path.{_∙_, refl}
 use native.Mathlib.Omega.{arith}
 use borrow.Author.Tests.{not-false}
-use Rattle.even.specs.Filling.{given}
+use Rattle.even.specs.Filled.{given}
 use Rattle.even.proofs.Halving.{Halving, halving-first, pass-asks, halving-yes, halving-no, filled-again, filled-already}
 use Rattle.even.proofs.least_worst.Statement.{statement}
 use Rattle.even.proofs.least_worst.Tie as tie

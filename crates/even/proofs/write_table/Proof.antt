@@ -2,7 +2,7 @@
 use Prim.Native.Nat.{_+_, _-_, _<_}
 use native.Mathlib.Nat.{le-of-lt}
 use native.Mathlib.Omega.{arith}
-use Rattle.even.specs.Filling.{given}
+use Rattle.even.specs.Filled.{given}
 use Rattle.even.proofs.Bound.{next-value}
 use Rattle.even.proofs.Runs.{runs-there}
 use Rattle.even.proofs.Writing.{Writing, row-there, writing-first, writing-more, writing-all, written, level-small, level-fits, entry-inside, next-rises, next-step, least-fits}
