@@ -6,7 +6,6 @@ use mathlib.Core.List.{List}
 use mathlib.Core.Bool.{true, false}
 use native.Mathlib.Omega.{arith}
 use lib.ListN.{length, take}
-use borrow.Author.Tests.{le-ltb, lt-ltb}
 use Rattle.laws.proofs.Cases.{by}
 use Rattle.record.specs.declared.Refusal.{Refusal}
 use Rattle.record.specs.declared.Refusal.the-variants.{LentTooShort}
@@ -15,13 +14,13 @@ use Rattle.even.specs.Table.{noTable}
 use Rattle.even.specs.Filled.{given, evenOutcome, FillAsks, EvenFilled}
 use Rattle.even.specs.declared.Outcome.{Outcome}
 use Rattle.engine.specs.Sound.{unsound, soundness}
-use Rattle.engine.specs.Even.{givenBy, outcomeAnswer, evenAnswer, evenLent, Enough, EvenPromise}
+use Rattle.engine.specs.Even.{givenBy, outcomeAnswer, tooLittle, evenAnswer, evenLent, Enough, EvenPromise}
 use Rattle.engine.specs.declared.Frame.{Frame}
 use Rattle.engine.specs.declared.EvenAnswer.{EvenAnswer}
 use Rattle.engine.specs.declared.EvenAnswer.the-variants.{Refused}
 use Rattle.engine.proofs.Clashes.{table-refused}
 use Rattle.engine.proofs.EvenTerms.{workable}
-use Rattle.engine.proofs.EvenOutcomes.{promised}
+use Rattle.engine.proofs.EvenOutcomes.{lent-enough, promised}
 use Rattle.engine.proofs.Ready.{Readied}
 
 -- an answer other than a table leaves all words as they were
@@ -36,19 +35,18 @@ module _ (bytes before words : List ℕ) where
       → EvenPromise bytes before before words words (Refused r)
   unchanged r a e = promised bytes before words a e refl (λ i h. refl) (λ q f. refl)
 
-  pub few-entries : length before < 256 → EvenPromise bytes before before words words (Refused LentTooShort)
+  pub too-little : tooLittle (length before) (length words) ≡ true → EvenPromise bytes before before words words (Refused LentTooShort)
   unfolding evenAnswer evenLent
-  few-entries h = unchanged LentTooShort (simp (lt-ltb _ _ h)) (simp (lt-ltb _ _ h))
+  too-little e = unchanged LentTooShort (simp e) (simp e)
 
-  pub few-words : 256 ≤ length before → length words < 8192 → EvenPromise bytes before before words words (Refused LentTooShort)
-  unfolding evenAnswer evenLent
-  few-words long h = unchanged LentTooShort (simp (le-ltb _ _ long, lt-ltb _ _ h)) (simp (le-ltb _ _ long, lt-ltb _ _ h))
+  module _ (long : tooLittle (length before) (length words) ≡ false) where
+    enough : Enough before words
+    enough = lent-enough long
 
-  module _ (enough : Enough before words) where
     pub even-back : (r : Refusal) → soundness bytes ≡ unsound r → EvenPromise bytes before before words words (Refused r)
     unfolding evenAnswer evenLent
     even-back r e =
-        unchanged r (simp (le-ltb _ _ (enough .entries), le-ltb _ _ (enough .work), e)) (simp (le-ltb _ _ (enough .entries), le-ltb _ _ (enough .work), e))
+        unchanged r (simp (long, e)) (simp (long, e))
 
     module _ {f : Frame} {curve targets : List ℕ} (r : Readied (soundness bytes) f curve targets) where
       given-is : given (take (f .levels) curve) targets (f .tolerance) ≡ givenBy (r .job)
@@ -73,8 +71,8 @@ module _ (bytes before words : List ℕ) where
       even-filled {after} {wordsAfter} {outcome} filled a =
           let h : EvenFilled (givenBy (r .job)) before after words wordsAfter outcome = rw given-is at filled in
           promised bytes before words
-          (a ∙ ap outcomeAnswer (h .answers) ∙ simp (le-ltb _ _ (enough .entries), le-ltb _ _ (enough .work), r .is))
-          (h .table ∙ simp (le-ltb _ _ (enough .entries), le-ltb _ _ (enough .work), r .is))
+          (a ∙ ap outcomeAnswer (h .answers) ∙ simp (long, r .is))
+          (h .table ∙ simp (long, r .is))
           (h .later-words .len)
           (λ i l. h .later-words .words i (omega (arith, r .known .values)))
           (λ q e. words-kept (givenBy (r .job)) h q (sym a ∙ e))

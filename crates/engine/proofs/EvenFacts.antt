@@ -2,11 +2,9 @@
 -- Assumes nothing.
 use mathlib.Core.Path.{_≡_, refl, ap, sym, _∙_}
 use mathlib.Core.List.{List, _++_}
-use mathlib.Core.Logic.{⊎-elim}
-use Prim.Native.Nat.{ℕ, _≤_, _<_}
+use Prim.Native.Nat.{ℕ}
 use lib.ListN.{length, drop}
-use borrow.Author.Tests.{le-ltb, lt-ltb}
-use Rattle.laws.proofs.Cases.{by, no-is, le-or-lt}
+use Rattle.laws.proofs.Cases.{by, no-is}
 use Rattle.record.specs.declared.Refusal.{Refusal}
 use Rattle.record.specs.declared.Job.{Job}
 use Rattle.even.specs.Even as lists
@@ -19,7 +17,7 @@ use Rattle.engine.specs.EvenFacts.{EvenSettled}
 use Rattle.engine.specs.declared.EvenAnswer.the-variants.{Refused}
 use Rattle.engine.proofs.Conditions.{sent, went-on}
 use Rattle.engine.proofs.EvenTerms.{workable, known, Spells, spells, even-in-lists}
-use Rattle.engine.proofs.EvenOutcomes.{none-within, no-level, worst-least, answer-is, entries-are}
+use Rattle.engine.proofs.EvenOutcomes.{enough-lent, short-lent, none-within, no-level, worst-least, answer-is, entries-are}
 
 -- no two lists are the even table of one job
 pub only-even : {bytes : List ℕ} {job : Job} → GoesOn bytes job → (a b : List ℕ) → EvenTable bytes job a → EvenTable bytes job b → a ≡ b
@@ -47,20 +45,12 @@ module _ {bytes : List ℕ} {job : Job} {x : lists.Given} (ok : Workable x) (s :
 -- an outcome settles the answer and the entries, so no two outcomes of one record and the same slices differ
 pub even-settles : {bytes before words after : List ℕ} {v : EvenValues} → EvenOutcome bytes before words after v → EvenSettled bytes before words after v
 unfolding evenAnswer evenLent
-even-settles {before = before} {words = words} (short h) =
-    ⊎-elim
-    (λ (few : length before < 256). record { entries = simp (lt-ltb _ _ few); values-are = simp (lt-ltb _ _ few) })
-    (λ (few : length words < 8192).
-    ⊎-elim
-    (λ (long : 256 ≤ length before). record { entries = simp (le-ltb _ _ long, lt-ltb _ _ few); values-are = simp (le-ltb _ _ long, lt-ltb _ _ few) })
-    (λ (under : length before < 256). record { entries = simp (lt-ltb _ _ under); values-are = simp (lt-ltb _ _ under) })
-    (le-or-lt 256 (length before)))
-    h
+even-settles (short h) = record { entries = simp (short-lent _ _ h); values-are = simp (short-lent _ _ h) }
 even-settles (back enough b) =
     let u = sent b in
     record {
-      entries = simp (le-ltb _ _ (enough .entries), le-ltb _ _ (enough .work), u .is);
-      values-are = simp (le-ltb _ _ (enough .entries), le-ltb _ _ (enough .work), u .is) (ap number (sym (u .numbered)));
+      entries = simp (enough-lent enough, u .is);
+      values-are = simp (enough-lent enough, u .is) (ap number (sym (u .numbered)));
     }
 even-settles {bytes = bytes} {before = before} {words = words} (none enough g h) =
     let c = none-computed (workable (known g)) (spells g) before h in

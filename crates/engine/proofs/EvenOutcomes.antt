@@ -4,13 +4,14 @@ use Prim.Native.Nat.{ℕ, _-_, _≤_, _<_}
 use mathlib.Core.Path.{_≡_, refl, sym, ap, subst, _∙_}
 use mathlib.Core.List.{List, _++_}
 use mathlib.Core.Bool.{Bool, true, false}
-use mathlib.Core.Logic.{_↔_, inl, inr, ⊎-elim}
-use lib.Dec.{T}
+use mathlib.Core.Logic.{_⊎_, _↔_, inl, inr, ⊎-elim}
+use lib.Dec.{T, ltb}
 use lib.ListN.{length, getD, take, drop}
 use lib.Seq.{take-append-seam}
-use borrow.Author.Tests.{le-ltb, lt-ltb}
+use mir.Facts.{or-yes, or-no, ltb-yes, yes-ltb}
+use borrow.Author.Tests.{ltb-false, le-ltb}
 use Rattle.laws.specs.Rises.{NeverFalls}
-use Rattle.laws.proofs.Cases.{by, yes-is, no-is, is-yes, le-or-lt}
+use Rattle.laws.proofs.Cases.{by, yes-is, no-is, is-yes, is-no, yes-or}
 use Rattle.record.specs.declared.Refusal.{Refusal}
 use Rattle.record.specs.declared.Refusal.the-variants.{LentTooShort, NoTable}
 use Rattle.record.specs.declared.Job.{Job}
@@ -20,7 +21,7 @@ use Rattle.even.specs.Filled.{evenOutcome, evenOver, Workable}
 use Rattle.even.proofs.Even.{no-list, even-is, even-worst, even-unique}
 use Rattle.engine.specs.Sound.{Soundness}
 use Rattle.engine.specs.Conditions.{GoesOn, madeBy, Standing, stands, returned}
-use Rattle.engine.specs.Even.{givenBy, outcomeAnswer, evenOf, evenAnswer, evenEntries, evenLent, WithinError, worstStep, EvenTable, worst, number, evenValues, Enough, EvenOutcome, short, back, none, made, MadeFor, EvenPromise}
+use Rattle.engine.specs.Even.{givenBy, outcomeAnswer, evenOf, tooLittle, evenAnswer, evenEntries, evenLent, WithinError, worstStep, EvenTable, worst, number, evenValues, Enough, EvenOutcome, short, back, none, made, MadeFor, EvenPromise}
 use Rattle.engine.specs.declared.EvenFigures.{EvenFigures}
 use Rattle.engine.specs.declared.EvenAnswer.{EvenAnswer}
 use Rattle.engine.specs.declared.EvenAnswer.the-variants.{Made, Refused}
@@ -86,6 +87,23 @@ module _ {bytes : List ℕ} {job : Job} {x : lists.Given} (ok : Workable x) (s :
       let n : length (evenTable x) ≡ 256 = is-even e .allowed .within .size in
       simp e (rw (← n) (take-append-seam (evenTable x) _))
 
+-- ---- test 1
+
+lent-short : (entries words : ℕ) → tooLittle entries words ≡ true → (entries < 256) ⊎ (words < 8192)
+lent-short entries words e = ⊎-elim (λ a. inl (ltb-yes a)) (λ b. inr (ltb-yes b)) (or-yes (ltb entries 256) (ltb words 8192) (yes-is e))
+
+pub lent-enough : {before words : List ℕ} → tooLittle (length before) (length words) ≡ false → Enough before words
+lent-enough {before} {words} e =
+    let (a, b) = or-no (ltb (length before) 256) (ltb (length words) 8192) (no-is e) in
+    record { entries = ltb-false _ _ (is-no _ a); work = ltb-false _ _ (is-no _ b) }
+
+-- and back
+pub short-lent : (entries words : ℕ) → (entries < 256) ⊎ (words < 8192) → tooLittle entries words ≡ true
+short-lent entries words h = is-yes _ (yes-or (ltb entries 256) (ltb words 8192) (⊎-elim (λ a. inl (yes-ltb a)) (λ b. inr (yes-ltb b)) h))
+
+pub enough-lent : {before words : List ℕ} → Enough before words → tooLittle (length before) (length words) ≡ false
+enough-lent n = simp (le-ltb _ _ (n .entries), le-ltb _ _ (n .work))
+
 -- ---- any record
 
 module _ (bytes before words : List ℕ) where
@@ -96,37 +114,23 @@ module _ (bytes before words : List ℕ) where
   pub some-even : EvenOutcome bytes before words (evenLent bytes before (length words)) (evenValues (evenAnswer bytes (length before) (length words)))
   unfolding evenAnswer evenLent
   some-even =
-      ⊎-elim
-      (λ (entries : 256 ≤ length before).
-      ⊎-elim
-      (λ (work : 8192 ≤ length words).
-      simp (le-ltb _ _ entries, le-ltb _ _ work) (long-outcome _ (record { entries = entries; work = work }) (standing bytes)))
-      (λ (under : length words < 8192). simp (le-ltb _ _ entries, lt-ltb _ _ under) (short (inr under)))
-      (le-or-lt 8192 (length words)))
-      (λ (under : length before < 256). simp (lt-ltb _ _ under) (short (inl under)))
-      (le-or-lt 256 (length before))
+      by (tooLittle (length before) (length words))
+      (λ e. simp e (short (lent-short _ _ e)))
+      (λ e. simp e (long-outcome _ (lent-enough e) (standing bytes)))
 
   module _ {job : Job} (enough : Enough before words) (g : GoesOn bytes job) where
     pub answer-is : evenAnswer bytes (length before) (length words) ≡ outcomeAnswer (evenOutcome (givenBy (madeBy bytes job)))
     unfolding evenAnswer
-    answer-is = simp (le-ltb _ _ (enough .entries), le-ltb _ _ (enough .work), went-on g)
+    answer-is = simp (enough-lent enough, went-on g)
 
     pub entries-are : evenLent bytes before (length words) ≡ evenOver (givenBy (madeBy bytes job)) before
     unfolding evenLent
-    entries-are = simp (le-ltb _ _ (enough .entries), le-ltb _ _ (enough .work), went-on g)
+    entries-are = simp (enough-lent enough, went-on g)
 
   -- a table is made only where enough is lent
-  pub enough-lent : {figures : EvenFigures} → Made figures ≡ evenAnswer bytes (length before) (length words) → Enough before words
+  made-enough : {figures : EvenFigures} → Made figures ≡ evenAnswer bytes (length before) (length words) → Enough before words
   unfolding evenAnswer
-  enough-lent e =
-      ⊎-elim
-      (λ (entries : 256 ≤ length before).
-      ⊎-elim
-      (λ (work : 8192 ≤ length words). record { entries = entries; work = work })
-      (λ (under : length words < 8192). absurd (table-refused (simp (le-ltb _ _ entries, lt-ltb _ _ under) at e)))
-      (le-or-lt 8192 (length words)))
-      (λ (under : length before < 256). absurd (table-refused (simp (lt-ltb _ _ under) at e)))
-      (le-or-lt 256 (length before))
+  made-enough e = by (tooLittle (length before) (length words)) (λ f. absurd (table-refused (simp f at e))) lent-enough
 
   -- ---- the promise by its equations
 
@@ -138,7 +142,7 @@ module _ (bytes before words : List ℕ) where
 
     delivered : {job : Job} → (m : MadeFor bytes job answer) → Delivered job (m .figures)
     delivered {job} m =
-        let enough = enough-lent (sym (m .is) ∙ a) in
+        let enough = made-enough (sym (m .is) ∙ a) in
         let ok = workable (known (m .goes-on)) in
         let s = spells (m .goes-on) in
         let told = answered ok s (sym (m .is) ∙ a ∙ answer-is enough (m .goes-on)) in

@@ -6,7 +6,7 @@ ghost use Rattle.gsdf.specs.Table.{tableB1};
 ghost use Rattle.engine.specs.Sound.{soundness, measured, rangeTests};
 ghost use Rattle.engine.specs.Preparing.{lightOf, sweepTests, Arrays, Climbs, InFront, Measurable, Prepares};
 ghost use Rattle.engine.specs.Nearest.{NearestPromise};
-ghost use Rattle.engine.specs.Even.{outcomeAnswer, EvenPromise};
+ghost use Rattle.engine.specs.Even.{tooLittle, outcomeAnswer, EvenPromise};
 ghost use Rattle.engine.specs.Check.{limitOf, contrastAnswer, CheckPromise};
 ghost use Rattle.engine.specs.Checking.{CheckFront, JobChecked};
 use contrast::Contrast;
@@ -226,6 +226,13 @@ pub fn nearest_table(bytes: &[u8], table: &mut [u16]) -> NearestAnswer
     }
 }
 
+// Test 1 of the even table: fewer than 256 entries or fewer than 8,192 words are lent.
+fn is_too_little(entries: usize, words: usize) -> bool
+    ensures { λ r. ⌜ r ≡ tooLittle entries words ⌝ }
+{
+    (entries < 256) | (words < 8192)
+}
+
 fn even_answer(outcome: Outcome) -> EvenAnswer
     ensures { λ r. ⌜ r ≡ outcomeAnswer outcome ⌝ }
 {
@@ -239,10 +246,7 @@ fn even_answer(outcome: Outcome) -> EvenAnswer
 pub fn even_table(bytes: &[u8], table: &mut [u16], work: &mut [u32]) -> EvenAnswer
     ensures { λ r. ⌜ EvenPromise (now (bytes .entry)) (now (table .entry)) (now (table .exit)) (now (work .entry)) (now (work .exit)) r ⌝ }
 {
-    if table.len() < 256 {
-        return EvenAnswer::Refused(Refusal::LentTooShort);
-    }
-    if work.len() < 8192 {
+    if is_too_little(table.len(), work.len()) {
         return EvenAnswer::Refused(Refusal::LentTooShort);
     }
     let mut curve = [0u32; 1024];

@@ -100,9 +100,9 @@ fn even_result(answer: EvenAnswer) -> EvenResult
             }
         }
         EvenAnswer::Refused(r) => {
-            let number = record::refusal_number(r);
+            let why = record::refusal_number(r);
             EvenResult {
-                refusal: number,
+                refusal: why,
                 worst: 0,
             }
         }
