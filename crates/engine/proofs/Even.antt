@@ -1,6 +1,6 @@
 -- The even table of a record: each way that the operation ends.
 -- Assumes nothing.
-use Prim.Native.Nat.{ℕ, _*_, _≤_, _<_}
+use Prim.Native.Nat.{ℕ}
 use mathlib.Core.Path.{_≡_, refl, sym, ap, _∙_}
 use mathlib.Core.List.{List}
 use mathlib.Core.Bool.{true, false}
@@ -11,7 +11,7 @@ use Rattle.record.specs.declared.Refusal.{Refusal}
 use Rattle.record.specs.declared.Refusal.the-variants.{LentTooShort}
 use Rattle.even.specs.Even.{Given}
 use Rattle.even.specs.Table.{noTable}
-use Rattle.even.specs.Filled.{given, evenOutcome, FillAsks, EvenFilled}
+use Rattle.even.specs.Filled.{given, outcomeOf, FillAsks, EvenFilled}
 use Rattle.even.specs.declared.Outcome.{Outcome}
 use Rattle.engine.specs.Sound.{unsound, soundness}
 use Rattle.engine.specs.Even.{givenBy, outcomeAnswer, tooLittle, evenAnswer, evenLent, Enough, EvenPromise}
@@ -26,7 +26,7 @@ use Rattle.engine.proofs.Ready.{Readied}
 -- an answer other than a table leaves all words as they were
 words-kept : (x : Given) {before after words wordsAfter : List ℕ} {outcome : Outcome} → EvenFilled x before after words wordsAfter outcome
     → (r : Refusal) → outcomeAnswer outcome ≡ Refused r → wordsAfter ≡ words
-unfolding evenOutcome
+unfolding outcomeOf
 words-kept x h r e = by (noTable x) (h .no-words) (λ f. absurd (table-refused (simp (h .answers, f) at e)))
 
 module _ (bytes before words : List ℕ) where
@@ -58,7 +58,7 @@ module _ (bytes before words : List ℕ) where
         lent = record {
           workable = workable (r .known);
           entries-fit = omega (arith, r .known .values, enough .entries);
-          rows-fit = omega (arith, r .known .values, enough .work);
+          rows-fit = omega (arith, r .known .values, enough .words);
         };
         starts-fit = omega (arith, r .known .values);
         ends-fit = omega (arith, r .known .values);

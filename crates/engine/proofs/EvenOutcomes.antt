@@ -1,27 +1,26 @@
 -- The even table in document 01's numbers and conditions, and demand 3.
 -- Assumes nothing.
-use Prim.Native.Nat.{ℕ, _-_, _≤_, _<_}
-use mathlib.Core.Path.{_≡_, refl, sym, ap, subst, _∙_}
-use mathlib.Core.List.{List, _++_}
-use mathlib.Core.Bool.{Bool, true, false}
+use Prim.Native.Nat.{ℕ, _≤_, _<_}
+use mathlib.Core.Path.{_≡_, sym, ap, subst, _∙_}
+use mathlib.Core.List.{List}
+use mathlib.Core.Bool.{true, false}
 use mathlib.Core.Logic.{_⊎_, _↔_, inl, inr, ⊎-elim}
-use lib.Dec.{T, ltb}
-use lib.ListN.{length, getD, take, drop}
+use lib.Dec.{ltb}
+use lib.ListN.{length, getD, take}
 use lib.Seq.{take-append-seam}
 use mir.Facts.{or-yes, or-no, ltb-yes, yes-ltb}
 use borrow.Author.Tests.{ltb-false, le-ltb}
-use Rattle.laws.specs.Rises.{NeverFalls}
 use Rattle.laws.proofs.Cases.{by, yes-is, no-is, is-yes, is-no, yes-or}
 use Rattle.record.specs.declared.Refusal.{Refusal}
-use Rattle.record.specs.declared.Refusal.the-variants.{LentTooShort, NoTable}
+use Rattle.record.specs.declared.Refusal.the-variants.{NoTable}
 use Rattle.record.specs.declared.Job.{Job}
 use Rattle.even.specs.Even as lists
 use Rattle.even.specs.Table.{noTable, leastWorst, evenTable}
-use Rattle.even.specs.Filled.{evenOutcome, evenOver, Workable}
-use Rattle.even.proofs.Even.{no-list, even-is, even-worst, even-unique}
+use Rattle.even.specs.Filled.{outcomeOf, evenOver, Workable}
+use Rattle.even.proofs.Even.{no-list, even-is, even-worst}
 use Rattle.engine.specs.Sound.{Soundness}
 use Rattle.engine.specs.Conditions.{GoesOn, madeBy, Standing, stands, returned}
-use Rattle.engine.specs.Even.{givenBy, outcomeAnswer, evenOf, tooLittle, evenAnswer, evenEntries, evenLent, WithinError, worstStep, EvenTable, worst, number, evenValues, Enough, EvenOutcome, short, back, none, made, MadeFor, EvenPromise}
+use Rattle.engine.specs.Even.{givenBy, outcomeAnswer, evenOf, tooLittle, evenAnswer, evenEntries, evenLent, WithinError, worstStep, IsEvenTable, worst, evenValues, Enough, EvenOutcome, short, back, none, made, MadeFor, EvenPromise}
 use Rattle.engine.specs.declared.EvenFigures.{EvenFigures}
 use Rattle.engine.specs.declared.EvenAnswer.{EvenAnswer}
 use Rattle.engine.specs.declared.EvenAnswer.the-variants.{Made, Refused}
@@ -40,7 +39,7 @@ module _ {bytes : List ℕ} {job : Job} {x : lists.Given} (ok : Workable x) (s :
   no-level h = is-yes _ (no-list x (ok .usable) .1 (λ levels v. h levels (in-terms s v)))
 
   module _ (some : noTable x ≡ false) where
-    is-even : EvenTable bytes job (evenTable x)
+    is-even : IsEvenTable bytes job (evenTable x)
     is-even = even-in-terms s (even-is x (ok .usable) (no-is some))
 
     pub worst-least : leastWorst x ≡ worstStep bytes job (evenTable x)
@@ -49,33 +48,33 @@ module _ {bytes : List ℕ} {job : Job} {x : lists.Given} (ok : Workable x) (s :
   -- ---- what comes of it
 
   module _ {before words : List ℕ} (enough : Enough before words) (g : GoesOn bytes job) where
-    job-outcome : EvenOutcome bytes before words (evenOver x before) (evenValues (outcomeAnswer (evenOutcome x)))
-    unfolding evenOver evenOutcome
+    job-outcome : EvenOutcome bytes before words (evenOver x before) (evenValues (outcomeAnswer (outcomeOf x)))
+    unfolding evenOver outcomeOf
     job-outcome =
         by (noTable x)
         (λ e. simp e (none enough g (none-within e)))
         (λ e. simp e (rw (s .values, worst-least e) (made enough g (is-even e))))
 
   -- the answer is "no table" exactly when the test passes
-  none-told : outcomeAnswer (evenOutcome x) ≡ Refused NoTable → noTable x ≡ true
-  unfolding evenOutcome
+  none-told : outcomeAnswer (outcomeOf x) ≡ Refused NoTable → noTable x ≡ true
+  unfolding outcomeOf
   none-told e = by (noTable x) (λ f. f) (λ f. absurd (table-refused (simp f at e)))
 
-  none-answers : noTable x ≡ true → outcomeAnswer (evenOutcome x) ≡ Refused NoTable
-  unfolding evenOutcome
+  none-answers : noTable x ≡ true → outcomeAnswer (outcomeOf x) ≡ Refused NoTable
+  unfolding outcomeOf
   none-answers e = simp e
 
   -- else it is a table
-  table-answers : noTable x ≡ false → outcomeAnswer (evenOutcome x) ≡ Made (record { worst = leastWorst x })
-  unfolding evenOutcome
+  table-answers : noTable x ≡ false → outcomeAnswer (outcomeOf x) ≡ Made (record { worst = leastWorst x })
+  unfolding outcomeOf
   table-answers e = simp e
 
   record Answered (figures : EvenFigures) : Type 0 where
     pub some : noTable x ≡ false
     pub figure : figures .worst ≡ leastWorst x
 
-  answered : {figures : EvenFigures} → Made figures ≡ outcomeAnswer (evenOutcome x) → Answered figures
-  unfolding evenOutcome
+  answered : {figures : EvenFigures} → Made figures ≡ outcomeAnswer (outcomeOf x) → Answered figures
+  unfolding outcomeOf
   answered e =
       by (noTable x)
       (λ f. absurd (table-refused (simp f at e)))
@@ -95,20 +94,20 @@ lent-short entries words e = ⊎-elim (λ a. inl (ltb-yes a)) (λ b. inr (ltb-ye
 pub lent-enough : {before words : List ℕ} → tooLittle (length before) (length words) ≡ false → Enough before words
 lent-enough {before} {words} e =
     let (a, b) = or-no (ltb (length before) 256) (ltb (length words) 8192) (no-is e) in
-    record { entries = ltb-false _ _ (is-no _ a); work = ltb-false _ _ (is-no _ b) }
+    record { entries = ltb-false _ _ (is-no _ a); words = ltb-false _ _ (is-no _ b) }
 
 -- and back
 pub short-lent : (entries words : ℕ) → (entries < 256) ⊎ (words < 8192) → tooLittle entries words ≡ true
 short-lent entries words h = is-yes _ (yes-or (ltb entries 256) (ltb words 8192) (⊎-elim (λ a. inl (yes-ltb a)) (λ b. inr (yes-ltb b)) h))
 
 pub enough-lent : {before words : List ℕ} → Enough before words → tooLittle (length before) (length words) ≡ false
-enough-lent n = simp (le-ltb _ _ (n .entries), le-ltb _ _ (n .work))
+enough-lent n = simp (le-ltb _ _ (n .entries), le-ltb _ _ (n .words))
 
 -- ---- any record
 
 module _ (bytes before words : List ℕ) where
   long-outcome : (y : Soundness) → Enough before words → Standing bytes y → EvenOutcome bytes before words (evenEntries y before) (evenValues (evenOf y))
-  long-outcome _ enough (returned b) = back enough b
+  long-outcome _ enough (returned {r = r} b) = back enough b
   long-outcome _ enough (stands g) = job-outcome (workable (known g)) (spells g) enough g
 
   pub some-even : EvenOutcome bytes before words (evenLent bytes before (length words)) (evenValues (evenAnswer bytes (length before) (length words)))
@@ -119,7 +118,7 @@ module _ (bytes before words : List ℕ) where
       (λ e. simp e (long-outcome _ (lent-enough e) (standing bytes)))
 
   module _ {job : Job} (enough : Enough before words) (g : GoesOn bytes job) where
-    pub answer-is : evenAnswer bytes (length before) (length words) ≡ outcomeAnswer (evenOutcome (givenBy (madeBy bytes job)))
+    pub answer-is : evenAnswer bytes (length before) (length words) ≡ outcomeAnswer (outcomeOf (givenBy (madeBy bytes job)))
     unfolding evenAnswer
     answer-is = simp (enough-lent enough, went-on g)
 
@@ -137,7 +136,7 @@ module _ (bytes before words : List ℕ) where
   module _ {after : List ℕ} {answer : EvenAnswer} (a : answer ≡ evenAnswer bytes (length before) (length words)) (e : after ≡ evenLent bytes before (length words)) where
     -- what demand 3 asks of the entries
     record Delivered (job : Job) (figures : EvenFigures) : Type 0 where
-      pub even : EvenTable bytes job (take 256 after)
+      pub even : IsEvenTable bytes job (take 256 after)
       pub figure : figures .worst ≡ worstStep bytes job (take 256 after)
 
     delivered : {job : Job} → (m : MadeFor bytes job answer) → Delivered job (m .figures)
@@ -148,7 +147,7 @@ module _ (bytes before words : List ℕ) where
         let told = answered ok s (sym (m .is) ∙ a ∙ answer-is enough (m .goes-on)) in
         let entries : take 256 after ≡ evenTable (givenBy (madeBy bytes job)) = ap (take 256) (e ∙ entries-are enough (m .goes-on)) ∙ front ok s before (told .some) in
         record {
-          even = subst (EvenTable bytes job) (sym entries) (is-even ok s (told .some));
+          even = subst (IsEvenTable bytes job) (sym entries) (is-even ok s (told .some));
           figure = told .figure ∙ worst-least ok s (told .some) ∙ ap (worstStep bytes job) (sym entries);
         }
 

@@ -1,9 +1,8 @@
 -- The even table of a sound job in document 01's terms, and in those of its curve and its targets as lists.
 -- Assumes nothing.
-use Prim.Native.Nat.{ℕ, zero, suc, _+_, _-_, _*_, _^_, _≤_, _<_}
-use mathlib.Core.Path.{_≡_, refl, sym, ap, ap₂, subst, _∙_}
+use Prim.Native.Nat.{ℕ, suc, _+_, _-_, _*_, _≤_, _<_}
+use mathlib.Core.Path.{_≡_, refl, sym, _∙_}
 use mathlib.Core.List.{List}
-use native.Mathlib.Nat.{le-of-eq}
 use native.Mathlib.Numerals.{add-one}
 use native.Mathlib.Omega.{arith}
 use lib.ListN.{length, getD}
@@ -15,12 +14,11 @@ use Rattle.record.proofs.Accepted.{accepted-job}
 use Rattle.curve.specs.Curve.{Sweep}
 use Rattle.curve.proofs.Laws as curve
 use Rattle.target.proofs.Laws as target
-use Rattle.target.specs.Target.{rangeOf}
 use Rattle.even.specs.Even as lists
 use Rattle.even.specs.Filled.{Workable}
 use Rattle.engine.specs.Sound.{SoundJob, IsSound, addedOf, topOf}
 use Rattle.engine.specs.Conditions.{F, jlo, N, GoesOn, madeBy}
-use Rattle.engine.specs.Even.{givenBy, w, t, WithinError, AllowedTable, deviationAt, worstStep, EvenTable}
+use Rattle.engine.specs.Even.{givenBy, w, t, WithinError, AllowedTable, deviationAt, worstStep, IsEvenTable}
 use Rattle.engine.proofs.Conditions.{went-on}
 use Rattle.engine.proofs.Reading.{sweep-of}
 use Rattle.engine.proofs.Soundness.{sound-job}
@@ -114,7 +112,7 @@ module _ {bytes : List ℕ} {job : Job} {x : lists.Given} (s : Spells bytes job 
 
   -- ---- the even table
 
-  pub even-in-terms : {table : List ℕ} → lists.IsEven x table → EvenTable bytes job table
+  pub even-in-terms : {table : List ℕ} → lists.IsEven x table → IsEvenTable bytes job table
   even-in-terms {table} v =
       let ours = allowed-in-terms (v .allowed) in
       record {
@@ -124,7 +122,7 @@ module _ {bytes : List ℕ} {job : Job} {x : lists.Given} (s : Spells bytes job 
             v .lower other (allowed-in-lists a) (worst-same (a .within) ∙ e ∙ sym (worst-same (ours .within))) p (rw (s .values) l) f;
       }
 
-  pub even-in-lists : {table : List ℕ} → EvenTable bytes job table → lists.IsEven x table
+  pub even-in-lists : {table : List ℕ} → IsEvenTable bytes job table → lists.IsEven x table
   even-in-lists {table} v =
       let ours = allowed-in-lists (v .allowed) in
       record {

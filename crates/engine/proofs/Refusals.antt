@@ -34,13 +34,13 @@ use Rattle.engine.specs.Sound.{Soundness, sound, unsound, addedOf, topOf
 use Rattle.engine.specs.Nearest.{nearestOf, nearestAnswer}
 use Rattle.engine.specs.NearestFacts.{Numbered}
 use Rattle.engine.specs.Even.{evenAnswer, evenLent, EvenValues, EvenOutcome}
-use Rattle.engine.specs.Even as even
+use Rattle.engine.specs.Even as outcome
 use Rattle.engine.specs.Check.{checkAnswer, checkLent, CheckValues, not-measured, pass, fail, number, CheckOutcome, short, back, unmeasured, outside, narrow, passes, fails}
 use Rattle.engine.specs.CheckFacts.{CheckNumber}
 use Rattle.engine.specs.declared.Ranged.{Ranged}
 use Rattle.engine.specs.declared.Ranged.the-variants.{Wide, Fault}
 use Rattle.engine.specs.declared.NearestAnswer.the-variants as nearest
-use Rattle.engine.specs.declared.EvenAnswer.the-variants as answer
+use Rattle.engine.specs.declared.EvenAnswer.the-variants as even
 use Rattle.engine.specs.declared.CheckAnswer.the-variants as check
 use Rattle.engine.proofs.Conditions.{sent}
 use Rattle.engine.proofs.EvenOutcomes.{some-even}
@@ -154,21 +154,21 @@ nearest-number bytes lent r e =
 
 -- the even table gives 1 to 11
 abbrev EvenNumber : EvenValues → Type 0
-EvenNumber (even.worst k) = Unit {0}
-EvenNumber (even.number n) = (1 ≤ n) × (n ≤ 11)
+EvenNumber (outcome.worst k) = Unit {0}
+EvenNumber (outcome.number n) = (1 ≤ n) × (n ≤ 11)
 
 outcome-numbered : {bytes before words after : List ℕ} {v : EvenValues} → EvenOutcome bytes before words after v → EvenNumber v
-outcome-numbered (even.short h) = (omega arith, omega arith)
-outcome-numbered {bytes = bytes} (even.back enough b) =
+outcome-numbered (outcome.short h) = (omega arith, omega arith)
+outcome-numbered {bytes = bytes} (outcome.back enough b) =
     let u = sent b in
     let n : Numbered 2 10 (u .refusal) = unsound-number bytes (u .refusal) (u .is) in
     (omega (arith, n .from, u .numbered), omega (arith, n .to, u .numbered))
-outcome-numbered (even.none enough g h) = (omega arith, omega arith)
-outcome-numbered (even.made enough g v) = tt
+outcome-numbered (outcome.none enough g h) = (omega arith, omega arith)
+outcome-numbered (outcome.made enough g v) = tt
 
-pub even-number : (bytes before words : List ℕ) (r : Refusal) → evenAnswer bytes (length before) (length words) ≡ answer.Refused r → Numbered 1 11 r
+pub even-number : (bytes before words : List ℕ) (r : Refusal) → evenAnswer bytes (length before) (length words) ≡ even.Refused r → Numbered 1 11 r
 even-number bytes before words r e =
-    let o : EvenOutcome bytes before words (evenLent bytes before (length words)) (even.number (refusalNumber r)) = rw e at (some-even bytes before words) in
+    let o : EvenOutcome bytes before words (evenLent bytes before (length words)) (outcome.number (refusalNumber r)) = rw e at (some-even bytes before words) in
     let (low, high) = outcome-numbered o in
     record { from = low; to = high }
 

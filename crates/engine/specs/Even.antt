@@ -14,7 +14,7 @@ use Rattle.record.specs.declared.Refusal.the-variants.{LentTooShort, NoTable}
 use Rattle.record.specs.declared.Job.{Job}
 use Rattle.target.specs.Target.{targetAt}
 use Rattle.even.specs.Even.{Given, stepDeviation, FirstDifference}
-use Rattle.even.specs.Filled.{given, evenOutcome, evenOver}
+use Rattle.even.specs.Filled.{given, outcomeOf, evenOver}
 use Rattle.even.specs.declared.Outcome.{Outcome}
 use Rattle.even.specs.declared.Outcome.the-variants as outcome
 use Rattle.engine.specs.Sound.{SoundJob, Soundness, sound, unsound, soundness, topOf}
@@ -34,7 +34,7 @@ outcomeAnswer (outcome.Table worst) = Made (record { worst = worst })
 outcomeAnswer outcome.NoTable = Refused NoTable
 
 abbrev pub evenOf : Soundness → EvenAnswer
-evenOf (sound job) = outcomeAnswer (evenOutcome (givenBy job))
+evenOf (sound job) = outcomeAnswer (outcomeOf (givenBy job))
 evenOf (unsound r) = Refused r
 
 -- test 1: fewer than 256 entries, or fewer than 8,192 words
@@ -88,7 +88,7 @@ abbrev pub worstStep : (bytes : List ℕ) → Job → (table : List ℕ) → ℕ
 worstStep bytes job table = maxOf (deviationAt bytes job table) 255
 
 -- the even table: allowed, with the least worst step, and with the lower level where it first differs from another that has it too
-pub record EvenTable (bytes : List ℕ) (job : Job) (table : List ℕ) : Type 0 where
+pub record IsEvenTable (bytes : List ℕ) (job : Job) (table : List ℕ) : Type 0 where
   pub allowed : AllowedTable bytes job table
   pub least : (other : List ℕ) → AllowedTable bytes job other → worstStep bytes job table ≤ worstStep bytes job other
   pub lower : (other : List ℕ) → AllowedTable bytes job other → worstStep bytes job other ≡ worstStep bytes job table
@@ -106,17 +106,17 @@ evenValues (Made figures) = worst (figures .worst)
 evenValues (Refused r) = number (refusalNumber r)
 
 -- test 1 is passed
-pub record Enough (before words : List ℕ) : Type 0 where
+pub record Enough (before work : List ℕ) : Type 0 where
   pub entries : 256 ≤ length before
-  pub work : 8192 ≤ length words
+  pub words : 8192 ≤ length work
 
 -- what can come of a record, the entries and the words lent: a number under its condition and no entry changed, or the table
-pub data EvenOutcome (bytes before words : List ℕ) : (after : List ℕ) → EvenValues → Type 0 where
-  short : (length before < 256) ⊎ (length words < 8192) → EvenOutcome bytes before words before (number 1)
-  back : {n : ℕ} → Enough before words → SendsBack bytes n → EvenOutcome bytes before words before (number n)
-  none : {job : Job} → Enough before words → GoesOn bytes job → ((levels : List ℕ) → WithinError bytes job levels → ⊥) → EvenOutcome bytes before words before (number 11)
-  made : {job : Job} {table : List ℕ} → Enough before words → GoesOn bytes job → EvenTable bytes job table
-      → EvenOutcome bytes before words (table ++ drop 256 before) (worst (worstStep bytes job table))
+pub data EvenOutcome (bytes before work : List ℕ) : (after : List ℕ) → EvenValues → Type 0 where
+  short : (length before < 256) ⊎ (length work < 8192) → EvenOutcome bytes before work before (number 1)
+  back : {n : ℕ} → Enough before work → SendsBack bytes n → EvenOutcome bytes before work before (number n)
+  none : {job : Job} → Enough before work → GoesOn bytes job → ((levels : List ℕ) → WithinError bytes job levels → ⊥) → EvenOutcome bytes before work before (number 11)
+  made : {job : Job} {table : List ℕ} → Enough before work → GoesOn bytes job → IsEvenTable bytes job table
+      → EvenOutcome bytes before work (table ++ drop 256 before) (worst (worstStep bytes job table))
 
 -- the answer is a table, and the job is sound
 pub record MadeFor (bytes : List ℕ) (job : Job) (answer : EvenAnswer) : Type 0 where
@@ -125,19 +125,19 @@ pub record MadeFor (bytes : List ℕ) (job : Job) (answer : EvenAnswer) : Type 0
   pub is : answer ≡ Made figures
 
 -- what the operation promises of its answer and of the entries and the words after it
-pub record EvenPromise (bytes before after words wordsAfter : List ℕ) (answer : EvenAnswer) : Type 0 where
-  pub answers : answer ≡ evenAnswer bytes (length before) (length words)
-  pub table : after ≡ evenLent bytes before (length words)
+pub record EvenPromise (bytes before after work workAfter : List ℕ) (answer : EvenAnswer) : Type 0 where
+  pub answers : answer ≡ evenAnswer bytes (length before) (length work)
+  pub table : after ≡ evenLent bytes before (length work)
   -- words from 8,192 on are as they were, and all of them where the job is refused
-  pub words-size : length wordsAfter ≡ length words
-  pub words-later : (i : ℕ) → 8192 ≤ i → getD wordsAfter i 0 ≡ getD words i 0
-  pub words-refused : {r : Refusal} → answer ≡ Refused r → wordsAfter ≡ words
-  pub outcome : EvenOutcome bytes before words after (evenValues answer)
+  pub words-size : length workAfter ≡ length work
+  pub words-later : (i : ℕ) → 8192 ≤ i → getD workAfter i 0 ≡ getD work i 0
+  pub words-refused : {r : Refusal} → answer ≡ Refused r → workAfter ≡ work
+  pub outcome : EvenOutcome bytes before work after (evenValues answer)
   -- demand 3: "no table" exactly when no list, falling or not, keeps within the error
-  pub no-table : {job : Job} → Enough before words → GoesOn bytes job → (answer ≡ Refused NoTable) ↔ ((levels : List ℕ) → WithinError bytes job levels → ⊥)
+  pub no-table : {job : Job} → Enough before work → GoesOn bytes job → (answer ≡ Refused NoTable) ↔ ((levels : List ℕ) → WithinError bytes job levels → ⊥)
   -- otherwise a table, and its 256 entries are the even table
-  pub otherwise : {job : Job} → Enough before words → GoesOn bytes job → (answer ≡ Refused NoTable → ⊥) → MadeFor bytes job answer
-  pub even : {job : Job} → MadeFor bytes job answer → EvenTable bytes job (take 256 after)
+  pub otherwise : {job : Job} → Enough before work → GoesOn bytes job → (answer ≡ Refused NoTable → ⊥) → MadeFor bytes job answer
+  pub even : {job : Job} → MadeFor bytes job answer → IsEvenTable bytes job (take 256 after)
   -- they never fall and keep within the error
   pub never-falls : {job : Job} → MadeFor bytes job answer → NeverFalls (take 256 after)
   pub within : {job : Job} → MadeFor bytes job answer → WithinError bytes job (take 256 after)

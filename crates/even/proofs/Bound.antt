@@ -1,10 +1,10 @@
 -- One walk over the P-values: each has an allowed level so far, and the worst step of the lowest levels is known so far.
 -- Assumes nothing.
-use Prim.Native.Nat.{ℕ, zero, suc, _+_, _-_, _*_, _^_, max, _≤_, _<_, zero-le}
+use Prim.Native.Nat.{ℕ, suc, _+_, _-_, max, _≤_, _<_, zero-le}
 use mathlib.Core.Path.{_≡_, refl, sym, ap, ap₂, subst, _∙_}
 use mathlib.Core.Logic.{⊎-elim}
-use mathlib.Core.Bool.{true, false, cond}
-use native.Mathlib.Nat.{le-of-lt, le-refl, eq-or-lt-of-le, le-of-suc-le-suc}
+use mathlib.Core.Bool.{true, false}
+use native.Mathlib.Nat.{le-of-lt, le-refl, eq-or-lt-of-le}
 use native.Mathlib.Numerals.{add-one}
 use native.Mathlib.Omega.{arith}
 use lib.Arith.{le-zero}
@@ -20,12 +20,11 @@ use Rattle.laws.proofs.Search.{any-intro, any-none}
 use Rattle.laws.proofs.Fill.{getD-tab, Filled, filled-none, filled-more, filled-at}
 use Rattle.even.specs.Even.{Given, F, t, stepDeviation, deviationAt, worstStep}
 use Rattle.even.specs.Table.{allowedAt, noLevel, noTable, lowestLevels}
-use Rattle.even.specs.Runs.{brightest, runFrom, runTo, IsRun, NotAbove, AreRuns}
+use Rattle.even.specs.Runs.{brightest, runFrom, runTo, IsRun, NotAbove}
 use Rattle.even.specs.Filled.{Workable}
 use Rattle.even.specs.Filling.{RunsAsk, firstBound, RunsFound}
-use Rattle.even.specs.declared.Outcome.{Outcome}
 use Rattle.even.specs.declared.Outcome.the-variants.{Table, NoTable}
-use Rattle.even.proofs.Runs.{reaching-top, is-darker, not-above, run-some, some-allowed, lowest-from, from-rises}
+use Rattle.even.proofs.Runs.{reaching-top, not-above, run-some, some-allowed, lowest-from}
 
 no-table-is : (x : Given) → noTable x ≡ true → NoTable ≡ firstBound x
 unfolding firstBound

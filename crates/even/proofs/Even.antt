@@ -1,11 +1,11 @@
 -- The table that is computed is the even table, no other list is, and there is none exactly when no list keeps within the error.
 -- Assumes nothing.
-use Prim.Native.Nat.{ℕ, zero, suc, _+_, _-_, _*_, _≤_, _<_, zero-le}
-use mathlib.Core.Path.{_≡_, refl, sym, subst, ap, _∙_}
+use Prim.Native.Nat.{ℕ, zero, suc, _+_, _-_, _≤_, _<_, zero-le}
+use mathlib.Core.Path.{_≡_, sym, subst, _∙_}
 use mathlib.Core.Logic.{_↔_, ⊎-elim}
-use mathlib.Core.Bool.{Bool, true, false, not, _&&_}
+use mathlib.Core.Bool.{not}
 use mathlib.Core.List.{List}
-use native.Mathlib.Nat.{le-refl, le-trans, le-of-lt, le-of-eq, le-antisymm, le-of-suc-le-suc, not-suc-le-zero, eq-or-lt-of-le, lt-irrefl, lt-of-lt-of-le}
+use native.Mathlib.Nat.{le-refl, le-trans, le-of-lt, le-of-eq, le-antisymm, le-of-suc-le-suc, not-suc-le-zero, eq-or-lt-of-le}
 use native.Mathlib.Numerals.{add-one}
 use native.Mathlib.Decide.{ℕ-discrete}
 use native.Mathlib.Omega.{arith}
@@ -15,17 +15,15 @@ use lib.ListN.{length, getD}
 use lib.Seq.{ext-getD}
 use mir.Facts.{T-not, not-T, T-not-not, and-yes, yes-and, leb-yes, yes-leb, clash}
 use Rattle.laws.specs.Search.{any, lowest}
-use Rattle.laws.specs.Numbers.{maxOf}
 use Rattle.laws.specs.Fill.{tab}
-use Rattle.laws.specs.Rises.{NeverFalls}
 use Rattle.laws.proofs.Search.{any-intro, lowest-passes, lowest-le, lowest-is, lowest-under}
 use Rattle.laws.proofs.Numbers.{max-at, max-le}
 use Rattle.laws.proofs.Fill.{length-tab, getD-tab}
 use Rattle.laws.proofs.Rises.{keeps-by-steps}
-use Rattle.even.specs.Even.{Given, F, t, AllowedAt, Within, AllowedTable, deviationAt, worstStep, FirstDifference, IsEven, Usable}
-use Rattle.even.specs.Paths.{Layers, good, lowestPath}
-use Rattle.even.specs.Table.{allowedAt, noLevel, noTable, stepWithin, tablesWithin, goodAt, feasible, lowestLevels, leastWorst, evenTable}
-use Rattle.even.proofs.Paths.{Path, path-good, good-path, lowest-path, lowest-first}
+use Rattle.even.specs.Even.{Given, Within, AllowedTable, deviationAt, worstStep, IsEven, Usable}
+use Rattle.even.specs.Paths.{lowestPath}
+use Rattle.even.specs.Table.{allowedAt, noLevel, noTable, stepWithin, tablesWithin, feasible, lowestLevels, leastWorst, evenTable}
+use Rattle.even.proofs.Paths.{Path, path-good, lowest-path, lowest-first}
 use Rattle.even.proofs.Runs.{allowed-is, is-allowed, lowest-from, from-rises}
 
 module _ (x : Given) where

@@ -1,29 +1,29 @@
 -- The rows filled one by one, from the last down.
 -- Assumes nothing.
-use Prim.Native.Nat.{ℕ, zero, suc, _+_, _-_, _*_, _/_, _^_, _≤_, _<_}
-use mathlib.Core.Path.{_≡_, refl, sym, ap, ap₂, subst, _∙_}
-use mathlib.Core.Bool.{Bool, true, false, not}
+use Prim.Native.Nat.{ℕ, suc, _+_, _-_, _*_, _/_, _^_, _≤_, _<_}
+use mathlib.Core.Path.{_≡_, sym, ap, subst, _∙_}
+use mathlib.Core.Bool.{Bool, true, false}
 use mathlib.Core.List.{List}
-use native.Mathlib.Nat.{le-refl, le-of-lt, mul-le-mul-right}
+use native.Mathlib.Nat.{mul-le-mul-right}
 use native.Mathlib.Omega.{arith}
 use lib.Arith.{le-zero}
 use lib.Dec.{T}
-use lib.ListN.{length, getD}
+use lib.ListN.{length}
 use Rattle.laws.specs.Search.{any}
 use Rattle.laws.proofs.Cases.{is-yes, no-is}
 use Rattle.laws.proofs.Search.{any-same}
 use Rattle.reach.specs.Rows.{RowAsks, RowFilled}
-use Rattle.even.specs.Even.{Given, F, t, targetStep}
-use Rattle.even.specs.Table.{allowedAt, goodAt, feasible, tablesWithin}
-use Rattle.even.specs.Runs.{brightest, runFrom, runTo, IsRun, RunAt}
+use Rattle.even.specs.Even.{Given, t, targetStep}
+use Rattle.even.specs.Table.{goodAt, feasible, tablesWithin}
+use Rattle.even.specs.Runs.{runFrom, runTo, IsRun, RunAt}
 use Rattle.even.specs.Steps.{leastStep, mostStep, IsSpan}
-use Rattle.even.specs.Filled.{Workable, KeptFrom}
+use Rattle.even.specs.Filled.{KeptFrom}
 use Rattle.even.specs.Filling.{RowsGood, RowsAsk, RowsFilled}
 use Rattle.even.proofs.Paths.{good-last}
 use Rattle.even.proofs.Runs.{reaching-top, run-found}
 use Rattle.even.proofs.Even.{every-level}
 use Rattle.even.proofs.Bound.{At, at-run, last-value, rises}
-use Rattle.even.proofs.Rows.{kept-all, kept-then, kept-row, kept-less, last-good, rows-more, rows-some, row-empty}
+use Rattle.even.proofs.Rows.{kept-all, kept-then, kept-row, last-good, rows-more, rows-some, row-empty}
 
 -- a filled row by equal numbers
 same-numbers : {curve words after : List ℕ} {p a a′ b b′ c c′ d d′ e e′ f f′ : ℕ} {some : Bool} → a ≡ a′ → b ≡ b′ → c ≡ c′ → d ≡ d′ → e ≡ e′ → f ≡ f′

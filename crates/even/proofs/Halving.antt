@@ -1,19 +1,19 @@
 -- The least worst step, found by halving.
 -- Assumes nothing.
-use Prim.Native.Nat.{ℕ, suc, _+_, _-_, _*_, _/_, _^_, _≤_, _<_, zero-le}
-use mathlib.Core.Path.{_≡_, refl, sym, subst, _∙_}
+use Prim.Native.Nat.{ℕ, suc, _+_, _-_, _*_, _^_, _≤_, _<_, zero-le}
+use mathlib.Core.Path.{_≡_, sym, subst, _∙_}
 use mathlib.Core.Bool.{Bool, true, false, not}
 use mathlib.Core.List.{List}
-use native.Mathlib.Nat.{le-refl, le-trans, le-of-lt, le-antisymm, not-suc-le-zero}
+use native.Mathlib.Nat.{le-refl, le-trans, le-antisymm, not-suc-le-zero}
 use native.Mathlib.Omega.{arith}
 use lib.Dec.{T}
 use lib.ListN.{length, getD}
 use Rattle.laws.proofs.Cases.{is-yes, yes-is, no-is}
 use Rattle.laws.proofs.Numbers.{max-le}
-use Rattle.even.specs.Even.{Given, F, t, AllowedTable, targetStep, worstStep}
+use Rattle.even.specs.Even.{Given, F, AllowedTable, targetStep, worstStep}
 use Rattle.even.specs.Table.{feasible, noTable, lowestLevels, leastWorst}
 use Rattle.even.specs.Filled.{Workable, KeptFrom}
-use Rattle.even.specs.Filling.{LastLit, RowsGood, RowsAsk, RowsFilled, SearchAsks, Searched}
+use Rattle.even.specs.Filling.{RowsGood, RowsAsk, RowsFilled, SearchAsks, Searched}
 use Rattle.even.proofs.Even.{feasible-more, low-allowed, every-level, bound-feasible, least-is}
 use Rattle.even.proofs.Rows.{kept-all, kept-then, last-kept}
 use Rattle.even.proofs.Steps.{deviation-top}

@@ -1,19 +1,19 @@
 -- The even table from its parts: the last row, the least worst step, the entries.
 -- Assumes nothing.
-use Prim.Native.Nat.{ℕ, suc, _+_, _-_, _*_, _^_, _≤_, _<_}
+use Prim.Native.Nat.{ℕ, _-_}
 use mathlib.Core.Path.{_≡_, refl, sym, ap, subst, _∙_}
-use mathlib.Core.Bool.{Bool, true, false, not, cond, _&&_}
+use mathlib.Core.Bool.{_&&_}
 use mathlib.Core.List.{List, _++_}
-use native.Mathlib.Nat.{le-refl, le-trans}
+use native.Mathlib.Nat.{le-trans}
 use native.Mathlib.Omega.{arith}
 use lib.Dec.{T, leb, ltb}
 use lib.ListN.{length, drop}
-use Rattle.laws.proofs.Cases.{is-yes, no-is, yes-is}
-use Rattle.reach.specs.Rows.{lit, RowThere, RunLit}
+use Rattle.laws.proofs.Cases.{is-yes, no-is}
+use Rattle.reach.specs.Rows.{RowThere, RunLit}
 use Rattle.even.specs.Even.{Given, t}
-use Rattle.even.specs.Table.{noTable, feasible, lowestLevels, leastWorst, evenTable}
+use Rattle.even.specs.Table.{evenTable}
 use Rattle.even.specs.Runs.{runFrom, runTo, IsRun, RunAt}
-use Rattle.even.specs.Filled.{KeptFrom, Lent, evenOutcome, evenOver, EvenFilled}
+use Rattle.even.specs.Filled.{Lent, outcomeOf, evenOver, EvenFilled}
 use Rattle.even.specs.Filling.{RunsFound, litAt, LastLit, SearchAsks, Searched, WriteAsks, lowestWithin, MakeAsks, Made}
 use Rattle.even.specs.declared.Outcome.{Outcome}
 use Rattle.even.specs.declared.Outcome.the-variants.{Table, NoTable}
@@ -79,7 +79,7 @@ module _ {x : Given} {starts ends before words : List ℕ} {r : Outcome} (found 
       record { lent = lent; runs = found .runs (bound-told x b); some = bound-told x b; bound-is = bound-value x b }
 
   pub even-none : r ≡ NoTable → EvenFilled x before before words words NoTable
-  unfolding evenOutcome evenOver
+  unfolding outcomeOf evenOver
   even-none e =
       let none = none-told x (sym e ∙ found .bound-is) in
       record {
@@ -91,7 +91,7 @@ module _ {x : Given} {starts ends before words : List ℕ} {r : Outcome} (found 
 
   pub even-made : {bound worst : ℕ} {after wordsAfter : List ℕ} → r ≡ Table bound → Made x before after words wordsAfter worst
       → EvenFilled x before after words wordsAfter (Table worst)
-  unfolding evenOutcome evenOver
+  unfolding outcomeOf evenOver
   even-made e m =
       let some = bound-told x (sym e ∙ found .bound-is) in
       record {

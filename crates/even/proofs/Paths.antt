@@ -2,7 +2,7 @@
 -- Assumes nothing.
 use Prim.Native.Nat.{ℕ, zero, suc, _+_, _-_, _≤_, _<_, zero-le}
 use mathlib.Core.Path.{_≡_, refl, sym, subst, ap}
-use mathlib.Core.Bool.{Bool, true, false, cond, _&&_}
+use mathlib.Core.Bool.{cond, _&&_}
 use mathlib.Core.Logic.{⊎-elim}
 use native.Mathlib.Nat.{le-refl, le-of-lt, le-of-suc-le-suc, le-of-eq, eq-or-lt-of-le}
 use native.Mathlib.Omega.{arith}
@@ -10,9 +10,9 @@ use lib.Dec.{T, ltb}
 use lib.Arith.{le-zero}
 use borrow.Author.Tests.{lt-ltb, le-ltb}
 use mir.Facts.{and-yes, yes-and}
-use Rattle.laws.specs.Search.{any, lowest}
+use Rattle.laws.specs.Search.{any}
 use Rattle.laws.proofs.Search.{any-intro, lowest-passes, lowest-le, lowest-is, lowest-under}
-use Rattle.even.specs.Paths.{Layers, goesOn, good, next, lowestPath}
+use Rattle.even.specs.Paths.{Layers, continues, good, next, lowestPath}
 
 -- e is a path from layer p to the last
 pub record Path (G : Layers) (p : ℕ) (e : ℕ → ℕ) : Type 0 where
@@ -32,25 +32,25 @@ module _ (G : Layers) where
   -- ---- `good`, layer by layer
 
   pub good-stands : (p d : ℕ) → T (good G p d) → T (G .stands p d)
-  unfolding good goesOn
+  unfolding good continues
   good-stands p d h = first (G .last - p) h
     where
-      first : (n : ℕ) → T (goesOn G n p d) → T (G .stands p d)
+      first : (n : ℕ) → T (continues G n p d) → T (G .stands p d)
       first zero h = h
       first (suc n) h = and-yes (G .stands p d) _ h .0
 
   pub good-step : (p d : ℕ) → p < G .last
       → good G p d ≡ (G .stands p d && any (λ e. G .follows p d e && good G (suc p) e) (G .levels))
-  unfolding good goesOn
+  unfolding good continues
   good-step p d h =
       let e : G .last - p ≡ suc (G .last - suc p) = omega arith in
-      ap (λ (n : ℕ). goesOn G n p d) e
+      ap (λ (n : ℕ). continues G n p d) e
 
   pub good-last : (d : ℕ) → good G (G .last) d ≡ G .stands (G .last) d
-  unfolding good goesOn
+  unfolding good continues
   good-last d =
       let e : G .last - G .last ≡ 0 = omega arith in
-      ap (λ (n : ℕ). goesOn G n (G .last) d) e
+      ap (λ (n : ℕ). continues G n (G .last) d) e
 
   -- a good level has a good level after it
   pub record Next (p d : ℕ) : Type 0 where
@@ -75,8 +75,8 @@ module _ (G : Layers) where
 
   -- ---- where a path goes on, the level is good
 
-  path-goes-on : (e : ℕ → ℕ) (n p : ℕ) → n + p ≡ G .last → Path G p e → T (goesOn G n p (e p))
-  unfolding goesOn
+  path-goes-on : (e : ℕ → ℕ) (n p : ℕ) → n + p ≡ G .last → Path G p e → T (continues G n p (e p))
+  unfolding continues
   path-goes-on e zero p h u = u .stands p (le-refl p) (omega arith)
   path-goes-on e (suc n) p h u =
       yes-and (G .stands p (e p)) _ (u .stands p (le-refl p) (omega arith))

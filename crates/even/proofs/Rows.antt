@@ -1,26 +1,26 @@
 -- The rows of lit levels: a row filled from the next one holds the levels from which an allowed table goes on.
 -- Assumes nothing.
-use Prim.Native.Nat.{ℕ, zero, suc, _+_, _-_, _*_, _^_, _≤_, _<_, zero-le}
+use Prim.Native.Nat.{ℕ, suc, _-_, _≤_, _<_, zero-le}
 use mathlib.Core.Path.{_≡_, refl, sym, ap, ap₂, subst, _∙_}
-use mathlib.Core.Logic.{inl, inr, ⊎-elim}
-use mathlib.Core.Bool.{Bool, true, false, _&&_, and-assoc, and-comm}
+use mathlib.Core.Logic.{inr, ⊎-elim}
+use mathlib.Core.Bool.{Bool, false, _&&_, and-assoc, and-comm}
 use mathlib.Core.List.{List}
-use native.Mathlib.Nat.{le-refl, le-trans, le-of-lt, eq-or-lt-of-le}
+use native.Mathlib.Nat.{le-refl, eq-or-lt-of-le}
 use native.Mathlib.Numerals.{add-one}
 use native.Mathlib.Omega.{arith}
 use lib.Dec.{T, leb, ltb}
-use lib.ListN.{length, getD}
+use lib.ListN.{length}
 use Rattle.laws.specs.Search.{any}
-use Rattle.laws.proofs.Cases.{by, is-yes, yes-is}
+use Rattle.laws.proofs.Cases.{by, yes-is}
 use Rattle.laws.proofs.Search.{any-intro, any-same}
 use Rattle.reach.specs.Rows.{lit, stepFits, reaches, RowKept, RowFilled}
 use Rattle.reach.proofs.Rows.{lit-same}
-use Rattle.even.specs.Even.{Given, F, t, targetStep, Usable}
-use Rattle.even.specs.Table.{allowedAt, noTable, stepWithin, tablesWithin, goodAt, feasible}
+use Rattle.even.specs.Even.{Given, targetStep}
+use Rattle.even.specs.Table.{tablesWithin, goodAt, feasible}
 use Rattle.even.specs.Runs.{runFrom, runTo}
 use Rattle.even.specs.Steps.{leastStep, mostStep}
 use Rattle.even.specs.Filled.{Workable, KeptFrom}
-use Rattle.even.specs.Filling.{litAt, RowsGood, LastLit, RowsFilled}
+use Rattle.even.specs.Filling.{litAt, RowsGood, LastLit}
 use Rattle.even.proofs.Paths.{good-step, good-last, lowest-path, path-from, path-good}
 use Rattle.even.proofs.Runs.{allowed-run}
 use Rattle.even.proofs.Steps.{step-fits}

@@ -3,13 +3,12 @@
 use Prim.Native.Nat.{ℕ, suc, _+_, _-_, _*_, _/_, _≤_, _<_}
 use mathlib.Core.Path.{_≡_, sym, ap, subst, _∙_}
 use mathlib.Core.Logic.{⊎-elim}
-use mathlib.Core.Bool.{Bool, true, false, _&&_}
-use native.Mathlib.Nat.{le-refl, le-trans, le-of-lt, lt-of-le-of-lt, eq-or-lt-of-le, mul-add, add-sub-of-le, mul-le-mul-left, mul-le-mul-right, le-div-iff-mul-le, div-mul-le-self}
+use mathlib.Core.Bool.{_&&_}
+use native.Mathlib.Nat.{le-refl, le-trans, le-of-lt, lt-of-le-of-lt, eq-or-lt-of-le, mul-add, add-sub-of-le, mul-le-mul-left, mul-le-mul-right, le-div-iff-mul-le}
 use native.Mathlib.Omega.{arith}
 use mathlib.Core.List.{List}
 use lib.Dec.{T, leb, ltb}
 use lib.ListN.{length, getD}
-use borrow.Author.Tests.{le-leb, lt-leb, lt-ltb, le-ltb}
 use mir.Facts.{and-yes, yes-and, leb-yes, yes-leb, yes-ltb, ltb-yes, clash}
 use Rattle.laws.specs.Numbers.{distance}
 use Rattle.laws.specs.Search.{any, lowest}

@@ -1,18 +1,18 @@
 -- Steps whose deviation is at most k.
 -- Assumes nothing.
-use Prim.Native.Nat.{ℕ, suc, _+_, _-_, _*_, _/_, _^_, _≤_, _<_, suc-le-suc}
+use Prim.Native.Nat.{ℕ, suc, _+_, _-_, _*_, _/_, _≤_, _<_, suc-le-suc}
 use mathlib.Core.Path.{_≡_}
 use mathlib.Core.Logic.{_↔_}
-use mathlib.Core.Bool.{Bool, _&&_}
+use mathlib.Core.Bool.{_&&_}
 use native.Mathlib.Nat.{le-of-suc-le-suc, suc-mul, mul-one, mul-le-mul-left, div-lt-iff-lt-mul}
 use native.Mathlib.Omega.{arith}
 use lib.Dec.{T, leb}
-use lib.ListN.{length, getD}
+use lib.ListN.{length}
 use mir.Facts.{and-yes, yes-and, leb-yes, yes-leb}
 use Rattle.laws.specs.Numbers.{distance}
 use Rattle.laws.proofs.Cases.{same-outcome}
 use Rattle.reach.specs.Rows.{stepFits}
-use Rattle.even.specs.Even.{Given, F, t, stepDeviation, targetStep, deviationAt, Usable}
+use Rattle.even.specs.Even.{Given, F, stepDeviation, targetStep, deviationAt, Usable}
 use Rattle.even.specs.Table.{stepWithin}
 use Rattle.even.specs.Steps.{leastStep, mostStep}
 

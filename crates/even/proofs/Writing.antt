@@ -1,31 +1,29 @@
 -- The walk through the filled rows: its levels are those of the lowest path.
 -- Assumes nothing.
-use Prim.Native.Nat.{ℕ, zero, suc, _+_, _-_, _*_, _/_, _^_, max, _≤_, _<_, zero-le}
+use Prim.Native.Nat.{ℕ, suc, _+_, _-_, _*_, _/_, _^_, max, _≤_, _<_, zero-le}
 use mathlib.Core.Path.{_≡_, refl, sym, ap, ap₂, subst, _∙_}
 use mathlib.Core.Logic.{⊎-elim}
-use mathlib.Core.Bool.{Bool, true, false, _&&_}
+use mathlib.Core.Bool.{_&&_}
 use mathlib.Core.List.{List, _++_}
-use native.Mathlib.Nat.{le-refl, le-trans, le-of-lt}
+use native.Mathlib.Nat.{le-refl, le-trans}
 use native.Mathlib.Numerals.{add-one}
 use native.Mathlib.Omega.{arith}
 use lib.Dec.{T, leb}
 use lib.ListN.{length, getD, set, drop}
 use mir.Facts.{and-yes, yes-and, leb-yes, yes-leb, clash}
-use Rattle.laws.specs.Search.{any, lowest}
+use Rattle.laws.specs.Search.{lowest}
 use Rattle.laws.specs.Fill.{tab}
 use Rattle.laws.proofs.Cases.{is-yes, yes-is, le-or-lt}
 use Rattle.laws.proofs.Search.{lowest-passes, lowest-under, lowest-is}
 use Rattle.laws.proofs.Fill.{Filled, filled-none, filled-more}
-use Rattle.reach.specs.Bits.{bitAt}
-use Rattle.reach.specs.Rows.{lit, stepFits, RowThere, First}
+use Rattle.reach.specs.Rows.{stepFits, RowThere, First}
 use Rattle.reach.proofs.Rows.{IsLit, lit-is, is-lit}
 use Rattle.even.specs.Even.{Given, F, t, targetStep}
-use Rattle.even.specs.Paths.{good, next, lowestPath}
+use Rattle.even.specs.Paths.{next, lowestPath}
 use Rattle.even.specs.Table.{stepWithin, tablesWithin, goodAt, feasible}
 use Rattle.even.specs.Runs.{runFrom, runTo, RunAt}
 use Rattle.even.specs.Steps.{leastStep, mostStep, IsSpan}
-use Rattle.even.specs.Filled.{Workable}
-use Rattle.even.specs.Filling.{litAt, RowsGood, WriteAsks, lowestWithin}
+use Rattle.even.specs.Filling.{WriteAsks, lowestWithin}
 use Rattle.even.proofs.Paths.{Path, path-from, path-good, lowest-path, next-good, next-is}
 use Rattle.even.proofs.Runs.{reaching-top, run-found}
 use Rattle.even.proofs.Steps.{step-fits}

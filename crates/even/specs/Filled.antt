@@ -1,4 +1,4 @@
--- What the even table's function asks, and what it leaves in the lent slices.
+-- What the even table's function asks, and what it leaves in table and work. What it leaves in the slices for the ends of the runs is free.
 use Prim.Native.Nat.{ℕ, _*_, _^_, _≤_, _<_}
 use mathlib.Core.Path.{_≡_}
 use mathlib.Core.Bool.{true, cond}
@@ -38,8 +38,8 @@ pub record KeptFrom (p : ℕ) (before after : List ℕ) : Type 0 where
   pub words : (i : ℕ) → 32 * p ≤ i → getD after i 0 ≡ getD before i 0
 
 -- what comes of it
-unfoldable pub evenOutcome : Given → Outcome
-evenOutcome x = cond (noTable x) NoTable (Table (leastWorst x))
+unfoldable pub outcomeOf : Given → Outcome
+outcomeOf x = cond (noTable x) NoTable (Table (leastWorst x))
 
 -- the lent entries afterwards: the even table and later ones as they were, or all as they were
 unfoldable pub evenOver : Given → (before : List ℕ) → List ℕ
@@ -47,7 +47,7 @@ evenOver x before = cond (noTable x) before (evenTable x ++ drop (length (x .tar
 
 -- what the function leaves: the table, its worst step, the words after the rows as they were, and all of them where there is no table
 pub record EvenFilled (x : Given) (before after words wordsAfter : List ℕ) (outcome : Outcome) : Type 0 where
-  pub answers : outcome ≡ evenOutcome x
+  pub answers : outcome ≡ outcomeOf x
   pub table : after ≡ evenOver x before
   pub later-words : KeptFrom (length (x .targets)) words wordsAfter
   pub no-words : noTable x ≡ true → wordsAfter ≡ words

@@ -13,21 +13,21 @@ pub record Layers : Type 0 where
   pub last : ℕ
 
 -- from level d in layer p a path goes on through n layers more
-unfoldable pub goesOn : Layers → (n p d : ℕ) → Bool
-goesOn G zero p d = G .stands p d
-goesOn G (suc n) p d =
-    let rest = any (λ e. let on = goesOn G n (suc p) e in G .follows p d e && on) (G .levels) in
-    G .stands p d && rest
+unfoldable pub continues : Layers → (n p d : ℕ) → Bool
+continues ls zero p d = ls .stands p d
+continues ls (suc n) p d =
+    let rest = any (λ e. let on = continues ls n (suc p) e in ls .follows p d e && on) (ls .levels) in
+    ls .stands p d && rest
 
 -- from level d in layer p a path goes on to the last layer
 unfoldable pub good : Layers → (p d : ℕ) → Bool
-good G p d = goesOn G (G .last - p) p d
+good ls p d = continues ls (ls .last - p) p d
 
 -- the lowest level that may follow d and from which a path goes on
 unfoldable pub next : Layers → (p d : ℕ) → ℕ
-next G p d = lowest (λ e. G .follows p d e && good G (suc p) e) (G .levels)
+next ls p d = lowest (λ e. ls .follows p d e && good ls (suc p) e) (ls .levels)
 
 -- the path that takes the lowest such level in each layer
 unfoldable pub lowestPath : Layers → (p : ℕ) → ℕ
-lowestPath G zero = lowest (good G zero) (G .levels)
-lowestPath G (suc p) = next G p (lowestPath G p)
+lowestPath ls zero = lowest (good ls zero) (ls .levels)
+lowestPath ls (suc p) = next ls p (lowestPath ls p)

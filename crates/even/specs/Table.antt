@@ -1,9 +1,9 @@
 -- The even table, computed.
 use Prim.Native.Nat.{ℕ, suc, _-_, _*_}
-use mathlib.Core.Bool.{Bool, _&&_, not, cond}
-use mathlib.Core.List.{List, _++_}
+use mathlib.Core.Bool.{Bool, _&&_, not}
+use mathlib.Core.List.{List}
 use lib.Dec.{leb}
-use lib.ListN.{length, drop}
+use lib.ListN.{length}
 use Rattle.laws.specs.Search.{any, lowest}
 use Rattle.laws.specs.Numbers.{distance}
 use Rattle.laws.specs.Fill.{tab}

@@ -321,7 +321,7 @@ fn make_table(
 }
 
 // Fills the front of `table` with the even table and returns its worst step, or finds that there is none and changes neither table nor work.
-// Works in the first 32 words for each target, whatever they hold, and keeps the ends of the runs of allowed levels in two slices of its own.
+// Works in the first 32 words for each target, whatever they hold. The ends of the runs of allowed levels go into `starts` and `ends`, in either case.
 pub fn fill_table(
     curve: &[u32],
     targets: &[u32],

@@ -1,26 +1,26 @@
 // The even table of any curve and targets through the C ABI, on bare numbers: for the comparison by running and for the benchmark.
 ghost use mathlib.Core.Path.{_≡_};
 ghost use Rattle.even.specs.Filled.{given, FillAsks};
-ghost use Rattle.even_values.specs.Values.{valuesOf, ValuesFilled};
+ghost use Rattle.even_values.specs.Values.{numbersOf, ValuesFilled};
 use even::Outcome;
 
 #[repr(C)]
-pub struct EvenValues {
+pub struct EvenNumbers {
     // 1 where the table was made, 0 where there is none.
     pub made: u32,
     // Its worst step, or 0.
     pub worst: u64,
 }
 
-fn values_of(outcome: Outcome) -> EvenValues
-    ensures { λ r. ⌜ r ≡ valuesOf outcome ⌝ }
+fn numbers_of(outcome: Outcome) -> EvenNumbers
+    ensures { λ r. ⌜ r ≡ numbersOf outcome ⌝ }
 {
     match outcome {
-        Outcome::Table(found) => EvenValues {
+        Outcome::Table(found) => EvenNumbers {
             made: 1,
             worst: found,
         },
-        Outcome::NoTable => EvenValues { made: 0, worst: 0 },
+        Outcome::NoTable => EvenNumbers { made: 0, worst: 0 },
     }
 }
 
@@ -33,10 +33,10 @@ pub extern "C" fn even_fill(
     ends: &mut [u16],
     table: &mut [u16],
     work: &mut [u32],
-) -> EvenValues
+) -> EvenNumbers
     requires { ⌜ FillAsks (given (now curve) (now targets) tolerance) (now starts) (now ends) (now table) (now work) ⌝ }
     ensures { λ r. ⌜ ValuesFilled (given (now (curve .entry)) (now (targets .entry)) tolerance) (now (table .entry)) (now (table .exit)) (now (work .entry)) (now (work .exit)) r ⌝ }
 {
     let outcome = even::fill_table(curve, targets, tolerance, starts, ends, table, work);
-    values_of(outcome)
+    numbers_of(outcome)
 }

@@ -1,4 +1,4 @@
--- Rows of 1024 bits, one for each drive level: the row of p is words 32p to 32p + 31.
+-- Rows of 1,024 bits, a bit for each drive level: the row of p is words 32p to 32p + 31.
 -- A row has a run, the levels `from` to `to` − 1; only their bits count.
 use Prim.Native.Nat.{ℕ, _+_, _*_, _^_, max, _≤_, _<_}
 use mathlib.Core.Path.{_≡_}

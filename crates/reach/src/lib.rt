@@ -101,7 +101,7 @@ fn find_lit(
     Found { q, fits: false }
 }
 
-// The same level, however bright it is.
+// The first level from `from` on, below `to`, whose bit is set in row p and whose luminance is at least `least`.
 pub fn first_lit(
     curve: &[u32],
     words: &[u32],

@@ -16,10 +16,10 @@ evenResultOf (Made figures) = record { refusal = 0; worst = figures .worst }
 evenResultOf (Refused r) = record { refusal = refusalNumber r; worst = 0 }
 
 -- what a call promises of its result and of the entries and the words after it
-pub record EvenCall (bytes before after words wordsAfter : List ℕ) (result : EvenResult) : Type 0 where
-  pub numbers : result ≡ evenResultOf (evenAnswer bytes (length before) (length words))
-  pub table : after ≡ evenLent bytes before (length words)
+pub record EvenCall (bytes before after work workAfter : List ℕ) (result : EvenResult) : Type 0 where
+  pub numbers : result ≡ evenResultOf (evenAnswer bytes (length before) (length work))
+  pub table : after ≡ evenLent bytes before (length work)
   -- words from 8,192 on are as they were, and all of them where the job is refused
-  pub words-size : length wordsAfter ≡ length words
-  pub words-later : (i : ℕ) → 8192 ≤ i → getD wordsAfter i 0 ≡ getD words i 0
-  pub words-refused : {r : Refusal} → evenAnswer bytes (length before) (length words) ≡ Refused r → wordsAfter ≡ words
+  pub words-size : length workAfter ≡ length work
+  pub words-later : (i : ℕ) → 8192 ≤ i → getD workAfter i 0 ≡ getD work i 0
+  pub words-refused : {r : Refusal} → evenAnswer bytes (length before) (length work) ≡ Refused r → workAfter ≡ work

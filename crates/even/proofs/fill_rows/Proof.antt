@@ -1,5 +1,4 @@
 -- From the last row down. Assumes nothing.
-use Prim.Native.Nat.{_-_, _<_, _≤_}
 use native.Mathlib.Nat.{le-of-lt}
 use native.Mathlib.Omega.{arith}
 use borrow.Author.Tests.{not-true, not-false}

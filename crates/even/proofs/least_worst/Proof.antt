@@ -1,5 +1,5 @@
 -- Between low and high lies the least worst step. Assumes nothing.
-use Prim.Native.Nat.{_-_, _≤_}
+use Prim.Native.Nat.{_-_}
 use mathlib.Core.Path.{_∙_, refl}
 use native.Mathlib.Omega.{arith}
 use borrow.Author.Tests.{not-false}

@@ -1,5 +1,3 @@
-use Rattle.even.proofs.Bound.{last-value}
-use Rattle.even.proofs.Runs.{runs-there}
 use Rattle.even.proofs.Making.{last-there, search-asks, write-asks, made}
 use borrow.Author.Needs.{needs}
 use Rattle.even.proofs.make_table.Statement.{statement}

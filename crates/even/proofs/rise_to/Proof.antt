@@ -1,5 +1,5 @@
 -- The levels passed are darker. Assumes nothing.
-use Prim.Native.Nat.{ℕ, _-_, _≤_}
+use Prim.Native.Nat.{_-_, _≤_}
 use native.Mathlib.Nat.{le-antisymm, le-trans}
 use lib.ListN.{length}
 use Rattle.even.specs.Runs.{reaching}

@@ -5,15 +5,15 @@ use Rattle.even_values.proofs.even_fill.Tie as tie
 use Rattle.even_values.proofs.even_fill.Reads as reads
 use Rattle.even_values.proofs.even_fill.Lts as lts
 use Rattle.even.proofs.fill_table.Reads as fill-table-reads
-use Rattle.even_values.proofs.values_of.Reads as values-of-reads
+use Rattle.even_values.proofs.numbers_of.Reads as numbers-of-reads
 
 -- src/lib.rt:40:9
 fill-table-requires : tie.Need-fill-table-requires
 fill-table-requires c κs = search needs
 
 -- src/lib.rt:41:5
-values-of-requires : tie.Need-values-of-requires
-values-of-requires c κs = search needs
+numbers-of-requires : tie.Need-numbers-of-requires
+numbers-of-requires c κs = search needs
 
 -- src/lib.rt:27:1
 same-length : tie.Need-same-length
@@ -33,14 +33,14 @@ same-length-4 c = search needs
 
 -- src/lib.rt:27:1
 returns : tie.Need-returns
-returns c = called (c .before .before .before .before .before .before .before .before .before .fill-table .ensures) (c .values-of .ensures)
+returns c = called (c .before .before .before .before .before .before .before .before .before .fill-table .ensures) (c .numbers-of .ensures)
 
 pub even-fill-spec : {M : Type 1} → statement M
 even-fill-spec =
     tie.close
     (tie.spec
     fill-table-requires
-    values-of-requires
+    numbers-of-requires
     same-length
     same-length-2
     same-length-3

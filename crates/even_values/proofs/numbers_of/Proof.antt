@@ -1,8 +1,8 @@
 use borrow.Author.Needs.{needs}
-use Rattle.even_values.proofs.values_of.Statement.{statement}
-use Rattle.even_values.proofs.values_of.Tie as tie
-use Rattle.even_values.proofs.values_of.Reads as reads
-use Rattle.even_values.proofs.values_of.Lts as lts
+use Rattle.even_values.proofs.numbers_of.Statement.{statement}
+use Rattle.even_values.proofs.numbers_of.Tie as tie
+use Rattle.even_values.proofs.numbers_of.Reads as reads
+use Rattle.even_values.proofs.numbers_of.Lts as lts
 
 -- src/lib.rt:19:24
 enum-known-outcome : tie.Need-enum-known-outcome
@@ -20,5 +20,5 @@ returns c = rw (c .before .outcome .given .1)
 returns-2 : tie.Need-returns-2
 returns-2 c = rw (c .enum-told .given .1)
 
-pub values-of-spec : {M : Type 1} → statement M
-values-of-spec = tie.close (tie.spec enum-known-outcome enum-told returns returns-2)
+pub numbers-of-spec : {M : Type 1} → statement M
+numbers-of-spec = tie.close (tie.spec enum-known-outcome enum-told returns returns-2)
