@@ -69,6 +69,3 @@ same-nearest e = cc
 
 pub same-figures : {f g : EvenFigures} → even.Made f ≡ even.Made g → f ≡ g
 same-figures e = cc
-
-pub same-even : {q r : Refusal} → even.Refused q ≡ even.Refused r → q ≡ r
-same-even e = cc

@@ -108,16 +108,16 @@ module _ {x : Given} {k : ℕ} {starts ends words before : List ℕ} (asks : Wri
         → r ≡ next (tablesWithin x k) p d
     unfolding least
     level-next {r} first =
-        let G = tablesWithin x k in
-        let e = next G p d in
-        let after = next-good G p d (omega arith) g in
+        let tables = tablesWithin x k in
+        let e = next tables p d in
+        let after = next-good tables p d (omega arith) g in
         let on = good-lit (suc p) e l (after .level) (after .good-on) in
         let step = step-is e (after .level) (after .follows) in
         let start : max d (runFrom x (suc p)) ≤ e = omega (arith, step .up, on .low) in
         let small = not-after first e on start (step .low) in
         let inside : r < length (x .curve) = omega (arith, after .level) in
         let there = first-is-lit first e on start (step .low) (omega arith) in
-        sym (next-is G p d r inside
+        sym (next-is tables p d r inside
         (is-step r inside (record {
           up = omega (arith, first .after);
           low = bright first e on start (step .low);

@@ -89,10 +89,6 @@ pub lowest-is : (p : ℕ → Bool) (n q : ℕ) → q < n → T (p q) → ((j : �
 lowest-is p n q h t none =
     ⊎-elim (λ e. e) (λ l. absurd (none _ l (lowest-passes p n (any-intro p n q h t)))) (eq-or-lt-of-le (lowest-le p n q t))
 
-pub lowest-none : (p : ℕ → Bool) (n : ℕ) → ((j : ℕ) → j < n → T (p j) → ⊥) → lowest p n ≡ n
-lowest-none p n none =
-    ⊎-elim (λ e. e) (λ l. absurd (none _ l (lowest-found p n l))) (eq-or-lt-of-le (lowest-top p n))
-
 -- ---- every number
 
 module _ (p : ℕ → Bool) where

@@ -8,7 +8,7 @@ use Prim.Native.Nat.{ℕ, suc, _+_, _-_, _*_, _/_, _%_, _^_, max, _≤_, _<_}
 use native.Mathlib.Nat.{pow-suc, mul-mod-left, one-mul, mod-eq-of-lt, div-eq-of-lt, zero-div, div-one, le-refl}
 use native.Mathlib.Omega.{arith}
 use lib.Dec.{eqb}
-use lib.ListN.{length, getD, length-set}
+use lib.ListN.{length, getD}
 use lib.Seq.{getD-set-same, getD-set-other}
 use lib.Bits.{bitAnd, bitOr, or-shr, or-step, or-add-and, and-le-l, and-le-r, and-mask}
 use lib.Arith.{bin-ind, digits-mod, lt-of-le-ne}
@@ -118,10 +118,6 @@ bit-same a b place e = ap (λ (word : ℕ). eqb (digit word (place % 32)) 1) e
 pub marked-word : (words : List ℕ) (place i : ℕ) → i ≢ place / 32 → getD (marked words place) i 0 ≡ getD words i 0
 unfolding marked
 marked-word words place i other = getD-set-other words (place / 32) i _ 0 other
-
-pub marked-length : (words : List ℕ) (place : ℕ) → length (marked words place) ≡ length words
-unfolding marked
-marked-length words place = length-set words (place / 32) _
 
 module _ (words : List ℕ) (place : ℕ) (inside : place < 32 * length words) where
   word-here : getD (marked words place) (place / 32) 0 ≡ bitOr (getD words (place / 32) 0) (2 ^ (place % 32))

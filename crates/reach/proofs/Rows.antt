@@ -87,10 +87,6 @@ module _ {before after : List ℕ} {p : ℕ} (kept : RowKept before after p) (q 
   pub bit-kept : (d : ℕ) → d < 1024 → bitAt after (q * 1024 + d) ≡ bitAt before (q * 1024 + d)
   bit-kept d l = bit-same after before (q * 1024 + d) (kept-words ((q * 1024 + d) / 32) (omega arith) (omega arith))
 
-  -- the lit levels of another row are as before
-  pub lit-kept : (from to d : ℕ) → d < 1024 → lit after q from to d ≡ lit before q from to d
-  lit-kept from to d l = lit-same after before q from to d l kept-words
-
   -- where the run ends in its row, at any d
   pub row-kept : (from to : ℕ) → to ≤ 1024 → lit after q from to ≡ lit before q from to
   unfolding lit
