@@ -27,7 +27,7 @@ use Rattle.engine.proofs.Ready.{Readied}
 words-kept : (x : Given) {before after words wordsAfter : List ℕ} {outcome : Outcome} → EvenFilled x before after words wordsAfter outcome
     → (r : Refusal) → outcomeAnswer outcome ≡ Refused r → wordsAfter ≡ words
 unfolding outcomeOf
-words-kept x h r e = by (noTable x) (h .no-words) (λ f. absurd (table-refused (simp (h .answers, f) at e)))
+words-kept x h r e = by (noTable x) (h .words-without-table) (λ f. absurd (table-refused (simp (h .answers, f) at e)))
 
 module _ (bytes before words : List ℕ) where
   -- nothing was written

@@ -18,7 +18,7 @@ use Rattle.even.specs.Even as lists
 use Rattle.even.specs.Filled.{Workable}
 use Rattle.engine.specs.Sound.{SoundJob, IsSound, addedOf, topOf}
 use Rattle.engine.specs.Conditions.{F, jlo, N, GoesOn, madeBy}
-use Rattle.engine.specs.Even.{givenBy, w, t, WithinError, AllowedTable, deviationAt, worstStep, IsEvenTable}
+use Rattle.engine.specs.Even.{givenBy, w, t, WithinError, AllowedTable, stepDeviationAt, worstStep, IsEvenTable}
 use Rattle.engine.proofs.Conditions.{went-on}
 use Rattle.engine.proofs.Reading.{sweep-of}
 use Rattle.engine.proofs.Soundness.{sound-job}
@@ -103,7 +103,7 @@ module _ {bytes : List ℕ} {job : Job} {x : lists.Given} (s : Spells bytes job 
       let n : length (x .targets) - 1 ≡ 255 = omega (arith, s .values) in
       rw n (max-same _ _ 255 step)
     where
-      step : (p : ℕ) → p < 255 → lists.deviationAt x p (getD table p 0) (getD table (suc p) 0) ≡ deviationAt bytes job table p
+      step : (p : ℕ) → p < 255 → lists.deviationAt x p (getD table p 0) (getD table (suc p) 0) ≡ stepDeviationAt bytes job table p
       step p l =
           let e : p + 1 ≡ suc p = add-one p in
           let next : suc p < 256 = omega arith in

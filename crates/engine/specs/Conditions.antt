@@ -29,7 +29,7 @@ jhi bytes job = indexOf (F bytes job (topOf job))
 abbrev pub N : (bytes : List ℕ) → Job → ℕ
 N bytes job = jhi bytes job - jlo bytes job
 
--- the record is sent back under this number, 2 to 10: by its reader, or by its display
+-- the record is sent back under this number, 2 to 10: by its reader, which gives 2 to 7, or by its display
 pub data SendsBack (bytes : List ℕ) : (number : ℕ) → Type 0 where
   unread : {r : Refusal} → answerOf bytes ≡ Refused r → SendsBack bytes (refusalNumber r)
   black : {job : Job} → answerOf bytes ≡ Accepted job → F bytes job 0 < jndLuminance 1 → SendsBack bytes 8
@@ -37,7 +37,7 @@ pub data SendsBack (bytes : List ℕ) : (number : ℕ) → Type 0 where
   narrow : {job : Job} → answerOf bytes ≡ Accepted job → jndLuminance 1 ≤ F bytes job 0 → F bytes job (topOf job) ≤ jndLuminance 1023 → N bytes job < 10000
       → SendsBack bytes 10
 
--- the job meets none of 2 to 10: it is sound
+-- the job meets none of 2 to 10: where enough is lent too, it is sound
 pub record GoesOn (bytes : List ℕ) (job : Job) : Type 0 where
   pub accepted : answerOf bytes ≡ Accepted job
   pub black : jndLuminance 1 ≤ F bytes job 0

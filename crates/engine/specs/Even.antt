@@ -67,27 +67,27 @@ t bytes job = targetAt (jlo bytes job) (N bytes job) 255
 abbrev pub Allowed : (bytes : List ℕ) → Job → (p d : ℕ) → Type 0
 Allowed bytes job p d = distance (F bytes job d) (t bytes job p) * 1000 ≤ w job * t bytes job p
 
--- 256 drive levels, 0 to M, falling or not, that keep each P-value within the allowed error of its target
+-- 256 drive levels, 0 to M, falling or not, that miss no target by more than the allowed error
 pub record WithinError (bytes : List ℕ) (job : Job) (levels : List ℕ) : Type 0 where
   pub size : length levels ≡ 256
   pub level : (p : ℕ) → p < 256 → getD levels p 0 ≤ topOf job
   pub near : (p : ℕ) → p < 256 → Allowed bytes job p (getD levels p 0)
 
--- an allowed table never falls besides
+-- an allowed table: such a list that never falls
 pub record AllowedTable (bytes : List ℕ) (job : Job) (table : List ℕ) : Type 0 where
   pub within : WithinError bytes job table
   pub never-falls : NeverFalls table
 
--- its step deviation at p, 0 to 254: f is the step of the luminance, g that of the target
-abbrev pub deviationAt : (bytes : List ℕ) → Job → (table : List ℕ) (p : ℕ) → ℕ
-deviationAt bytes job table p =
+-- its step deviation at p, 0 to 254. f is the step of the luminance, not below 0 since F and the table never fall; g is that of the target
+abbrev pub stepDeviationAt : (bytes : List ℕ) → Job → (table : List ℕ) (p : ℕ) → ℕ
+stepDeviationAt bytes job table p =
     stepDeviation (F bytes job (getD table (p + 1) 0) - F bytes job (getD table p 0)) (t bytes job (p + 1) - t bytes job p)
 
--- its worst step, the largest of the 255
+-- its worst step: the largest deviation of its 255 steps
 abbrev pub worstStep : (bytes : List ℕ) → Job → (table : List ℕ) → ℕ
-worstStep bytes job table = maxOf (deviationAt bytes job table) 255
+worstStep bytes job table = maxOf (stepDeviationAt bytes job table) 255
 
--- the even table: allowed, with the least worst step, and with the lower level where it first differs from another that has it too
+-- the even table: allowed, of the least worst step, and lower than any other of that worst step where the two first differ
 pub record IsEvenTable (bytes : List ℕ) (job : Job) (table : List ℕ) : Type 0 where
   pub allowed : AllowedTable bytes job table
   pub least : (other : List ℕ) → AllowedTable bytes job other → worstStep bytes job table ≤ worstStep bytes job other
@@ -128,25 +128,25 @@ pub record MadeFor (bytes : List ℕ) (job : Job) (answer : EvenAnswer) : Type 0
 pub record EvenPromise (bytes before after work workAfter : List ℕ) (answer : EvenAnswer) : Type 0 where
   pub answers : answer ≡ evenAnswer bytes (length before) (length work)
   pub table : after ≡ evenLent bytes before (length work)
-  -- words from 8,192 on are as they were, and all of them where the job is refused
+  -- words from 8,192 on are as they were, and all of them where the job is refused; after a table the first 8,192 hold what they may
   pub words-size : length workAfter ≡ length work
   pub words-later : (i : ℕ) → 8192 ≤ i → getD workAfter i 0 ≡ getD work i 0
   pub words-refused : {r : Refusal} → answer ≡ Refused r → workAfter ≡ work
   pub outcome : EvenOutcome bytes before work after (evenValues answer)
-  -- demand 3: "no table" exactly when no list, falling or not, keeps within the error
+  -- demand 3. "No table" is answered exactly where every list, falling or not, misses some target by more than the error
   pub no-table : {job : Job} → Enough before work → GoesOn bytes job → (answer ≡ Refused NoTable) ↔ ((levels : List ℕ) → WithinError bytes job levels → ⊥)
-  -- otherwise a table, and its 256 entries are the even table
+  -- in every other case there is a table, and the first 256 entries are it
   pub otherwise : {job : Job} → Enough before work → GoesOn bytes job → (answer ≡ Refused NoTable → ⊥) → MadeFor bytes job answer
   pub even : {job : Job} → MadeFor bytes job answer → IsEvenTable bytes job (take 256 after)
-  -- they never fall and keep within the error
+  -- no entry is below the one before it, and none misses its target by more than the error
   pub never-falls : {job : Job} → MadeFor bytes job answer → NeverFalls (take 256 after)
   pub within : {job : Job} → MadeFor bytes job answer → WithinError bytes job (take 256 after)
-  -- the worst step of every other list that does is at least as large
+  -- no other list of which this holds has a smaller worst step
   pub least : {job : Job} → MadeFor bytes job answer → (other : List ℕ) → WithinError bytes job other → NeverFalls other
       → worstStep bytes job (take 256 after) ≤ worstStep bytes job other
-  -- where it is equal, ours has the lower level at the first difference
+  -- and one with the same worst step is higher where it first differs
   pub lower : {job : Job} → MadeFor bytes job answer → (other : List ℕ) → WithinError bytes job other → NeverFalls other
       → worstStep bytes job other ≡ worstStep bytes job (take 256 after)
       → (p : ℕ) → p < 256 → FirstDifference (take 256 after) other p → getD (take 256 after) p 0 < getD other p 0
-  -- the worst step in the answer is that of the entries
+  -- the figure in the answer is worked out from these entries
   pub worst-is : {job : Job} → (made : MadeFor bytes job answer) → made .figures .worst ≡ worstStep bytes job (take 256 after)

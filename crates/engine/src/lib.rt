@@ -61,7 +61,7 @@ pub enum NearestAnswer {
     Refused(Refusal),
 }
 
-// The figures of an even table: its worst step, in thousandths of the step that is wanted.
+// The figures of an even table: its worst step, in thousandths of the step that is wanted, rounded up.
 pub struct EvenFigures {
     pub worst: u64,
 }

@@ -86,7 +86,7 @@ module _ {x : Given} {starts ends before words : List ℕ} {r : Outcome} (found 
         answers = rw none refl;
         table = rw none refl;
         later-words = kept-all _ words;
-        no-words = λ _. refl;
+        words-without-table = λ _. refl;
       }
 
   pub even-made : {bound worst : ℕ} {after wordsAfter : List ℕ} → r ≡ Table bound → Made x before after words wordsAfter worst
@@ -98,5 +98,5 @@ module _ {x : Given} {starts ends before words : List ℕ} {r : Outcome} (found 
         answers = rw (some, m .worst-is) refl;
         table = rw some (m .table);
         later-words = m .later-words;
-        no-words = λ f. absurd (subst T (sym f ∙ some) tt);
+        words-without-table = λ f. absurd (subst T (sym f ∙ some) tt);
       }

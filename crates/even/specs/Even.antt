@@ -26,7 +26,7 @@ t x p = getD (x .targets) p 0
 abbrev pub AllowedAt : Given → (p d : ℕ) → Type 0
 AllowedAt x p d = distance (F x d) (t x p) * 1000 ≤ x .tolerance * t x p
 
--- a list of levels of the display, falling or not, that keeps each P-value within the allowed error of its target
+-- levels of the display, one for each P-value, falling or not, that miss no target by more than the allowed error
 pub record Within (x : Given) (levels : List ℕ) : Type 0 where
   pub one-each : length levels ≡ length (x .targets)
   pub level : (p : ℕ) → p < length (x .targets) → getD levels p 0 < length (x .curve)

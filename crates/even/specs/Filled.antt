@@ -12,7 +12,7 @@ use Rattle.even.specs.declared.Outcome.the-variants.{Table, NoTable}
 abbrev pub given : (curve targets : List ℕ) (tolerance : ℕ) → Given
 given curve targets tolerance = record { curve = curve; targets = targets; tolerance = tolerance }
 
--- a row has 1,024 bits, and what is computed of luminances below 2^26 fits 64 bits
+-- a row has 1,024 bits, and what is computed of luminances below 2^26 fits 64 bits; so does the place of a bit where there are at most 65,536 P-values
 pub record Workable (x : Given) : Type 0 where
   pub usable : Usable x
   pub levels : length (x .curve) ≤ 1024
@@ -20,7 +20,7 @@ pub record Workable (x : Given) : Type 0 where
   pub curve-small : (d : ℕ) → d < length (x .curve) → F x d < 2 ^ 26
   pub targets-small : (p : ℕ) → p < length (x .targets) → t x p < 2 ^ 26
 
--- what the table asks: as many entries as P-values, and 32 words for each
+-- what the table asks: at least as many entries as P-values, and 32 words for each
 pub record Lent (x : Given) (before words : List ℕ) : Type 0 where
   pub workable : Workable x
   pub entries-fit : length (x .targets) ≤ length before
@@ -50,4 +50,4 @@ pub record EvenFilled (x : Given) (before after words wordsAfter : List ℕ) (ou
   pub answers : outcome ≡ outcomeOf x
   pub table : after ≡ evenOver x before
   pub later-words : KeptFrom (length (x .targets)) words wordsAfter
-  pub no-words : noTable x ≡ true → wordsAfter ≡ words
+  pub words-without-table : noTable x ≡ true → wordsAfter ≡ words

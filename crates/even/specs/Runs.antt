@@ -22,7 +22,7 @@ brightest tolerance target = target + margin tolerance target
 unfoldable pub reaching : (curve : List ℕ) (l : ℕ) → ℕ
 reaching curve l = lowest (λ d. leb l (getD curve d 0)) (length curve)
 
--- the first level in the band, and the first above it
+-- the first level not below the band, and the first above it
 abbrev pub enters : (curve : List ℕ) (tolerance target : ℕ) → ℕ
 enters curve tolerance target = reaching curve (darkest tolerance target)
 

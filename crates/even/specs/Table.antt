@@ -43,7 +43,8 @@ goodAt x k p d = good (tablesWithin x k) p d
 unfoldable pub feasible : Given → (k : ℕ) → Bool
 feasible x k = any (goodAt x k 0) (length (x .curve))
 
--- the lowest allowed level of each P-value
+-- the lowest allowed level of each P-value. Where each has one they are an allowed table, since the lower end of the band around a target rises with it;
+-- so no more than its worst step has to be searched
 unfoldable pub lowestLevels : Given → List ℕ
 lowestLevels x = tab (λ p. lowest (allowedAt x p) (length (x .curve))) (length (x .targets))
 
@@ -51,5 +52,6 @@ lowestLevels x = tab (λ p. lowest (allowedAt x p) (length (x .curve))) (length 
 unfoldable pub leastWorst : Given → ℕ
 leastWorst x = lowest (feasible x) (suc (worstStep x (lowestLevels x)))
 
+-- the lowest of the tables that have it
 unfoldable pub evenTable : Given → List ℕ
 evenTable x = tab (lowestPath (tablesWithin x (leastWorst x))) (length (x .targets))

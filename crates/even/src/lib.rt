@@ -1,4 +1,4 @@
-// The even table of any curve and targets: the allowed table with the least worst step, and the lowest of those.
+// The even table of any curve and any targets.
 ghost use mathlib.Core.Path.{_≡_};
 ghost use mathlib.Core.Bool.{true, false};
 ghost use mathlib.Core.List.{_++_};
@@ -263,7 +263,7 @@ fn later(a: usize, b: usize) -> usize
     a
 }
 
-// Writes the table: at each P-value the lowest level that is lit and whose step from the level before fits.
+// Writes the table: at each P-value the lowest level that is lit and whose step from the level before fits. The runs are those that the allowed error makes.
 fn write_table(
     curve: &[u32],
     targets: &[u32],
@@ -321,7 +321,7 @@ fn make_table(
 }
 
 // Fills the front of `table` with the even table and returns its worst step, or finds that there is none and changes neither table nor work.
-// Works in the first 32 words for each target, whatever they hold. The ends of the runs of allowed levels go into `starts` and `ends`, in either case.
+// Works in the first 32 words for each target, whatever they hold. `starts` and `ends` are working space too, for the ends of the runs of allowed levels.
 pub fn fill_table(
     curve: &[u32],
     targets: &[u32],

@@ -2,7 +2,7 @@
 -- Assumes nothing.
 use Prim.Native.Nat.{ℕ}
 use mathlib.Core.List.{List}
-use mathlib.Core.Path.{_≡_, ap, _∙_}
+use mathlib.Core.Path.{_≡_, ap, subst, _∙_}
 use lib.IntN.{ℤ}
 use Rattle.record.specs.Refusals.{refusalNumber}
 use Rattle.record.specs.declared.Refusal.{Refusal}
@@ -53,14 +53,11 @@ pub even-refused : {answer : EvenAnswer} {r : Refusal} {n : ℕ} → answer ≡ 
     → record { refusal = n; worst = 0 } ≡ evenResultOf answer
 even-refused e f = rw (e, f)
 
-pub even-called : {bytes before after words wordsAfter : List ℕ} {answer : EvenAnswer} {result : EvenResult}
-    → EvenPromise bytes before after words wordsAfter answer → result ≡ evenResultOf answer → EvenCall bytes before after words wordsAfter result
-even-called h e = record {
+pub even-called : {bytes before after work workAfter : List ℕ} {answer : EvenAnswer} {result : EvenResult}
+    → EvenPromise bytes before after work workAfter answer → result ≡ evenResultOf answer → EvenCall bytes before after work workAfter result
+even-called {bytes} {before} {after} {work} {workAfter} h e = record {
   numbers = e ∙ ap evenResultOf (h .answers);
-  table = h .table;
-  words-size = h .words-size;
-  words-later = h .words-later;
-  words-refused = λ f. h .words-refused (h .answers ∙ f);
+  promise = subst (λ (a : EvenAnswer). EvenPromise bytes before after work workAfter a) (h .answers) h;
 }
 
 -- ---- the check

@@ -84,7 +84,7 @@ pub extern "C" fn yepidlaw_nearest(bytes: &[u8], table: &mut [u16]) -> NearestRe
 pub struct EvenResult {
     // 0 where the table was made; else the refusal's number, and the worst step is 0.
     pub refusal: u32,
-    // The worst step of the table, in thousandths of the step that is wanted.
+    // The worst step of the table, in thousandths of the step that is wanted, rounded up; it may be 0.
     pub worst: u64,
 }
 
