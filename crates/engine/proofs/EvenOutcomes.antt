@@ -172,7 +172,7 @@ module _ (bytes before words : List ℕ) where
     -- with what is kept of the words
     pub promised : {wordsAfter : List ℕ} → length wordsAfter ≡ length words → ((i : ℕ) → 8192 ≤ i → getD wordsAfter i 0 ≡ getD words i 0)
         → ((r : Refusal) → answer ≡ Refused r → wordsAfter ≡ words) → EvenPromise bytes before after words wordsAfter answer
-    promised n later all = record {
+    promised {wordsAfter} n later all = record {
       answers = a;
       table = e;
       words-size = n;
