@@ -4,11 +4,11 @@
  * of its elements; the pointer may be null where that number is 0. So many elements must be there, aligned, and no two slices of a call may overlap;
  * nothing else is asked of the caller.
  *
- * Luminances are in units of 0.0001 cd/m², JND indices in hundredths of a JND, deviations of contrast in parts per thousand.
+ * Luminances are in units of 0.0001 cd/m², JND indices in hundredths of a JND, deviations in parts per thousand.
  *
  * A call that is refused gives the first of these numbers that holds, and changes nothing that was lent:
  *
- *    1  too few entries or places are lent
+ *    1  too few entries, words or places are lent
  *    2  the bytes end before the record does
  *    3  a section has a number of items that it cannot have
  *    4  bytes are left over
@@ -18,6 +18,7 @@
  *    8  the darkest level, with the room light, is below Table B-1
  *    9  the brightest level is above it
  *   10  the two are fewer than 100 JND apart
+ *   11  "no table": some P-value has no drive level within the allowed error of its target
  *   12  a check reading, with the room light, is outside Table B-1
  *   13  the first and the last check reading are fewer than 100 JND apart, or fall */
 #ifndef YEPIDLAW_H
@@ -48,6 +49,24 @@ struct yepidlaw_nearest {
  * Where refusal is 0, table[P] is the drive level of P-value P, 0 to 255, and entries from 256 on are as they were.
  * Else no entry was changed. */
 struct yepidlaw_nearest yepidlaw_nearest(const uint8_t *record, size_t n, uint16_t *table, size_t m);
+
+/* The figure of an even table. */
+struct yepidlaw_even {
+    uint32_t refusal;    /* 0: the table was made; else the number of the refusal, 1 to 11, and worst_step is 0 */
+    uint64_t worst_step; /* the largest deviation of a step of luminance from the step of its targets, parts per thousand, rounded up */
+};
+
+/* The even table of a job record: of the tables that never fall and keep each P-value within the allowed error of its target, the one with the
+ * least worst step; of several, the one with the lower drive level at the first P-value where they differ.
+ *
+ * record, n   the job record and its number of bytes, any bytes
+ * table, m    the entries lent for the table and their number; fewer than 256 are refused, with number 1
+ * work, k     the words lent as working space and their number; fewer than 8,192 are refused, with number 1
+ *
+ * Where refusal is 0, table[P] is the drive level of P-value P, 0 to 255, and entries from 256 on are as they were. So are words from 8,192 on; those
+ * before them may hold anything, before the call and after it.
+ * Else no entry and no word was changed. */
+struct yepidlaw_even yepidlaw_even(const uint8_t *record, size_t n, uint16_t *table, size_t m, uint32_t *work, size_t k);
 
 /* The verdict of a contrast check. */
 struct yepidlaw_check {

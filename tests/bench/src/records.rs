@@ -3,7 +3,9 @@ use reference::gsdf::Gsdf;
 use reference::record::Record;
 use reference::target::Range;
 
-/// Records of depth 10 with 8 lamps and a check: two readings, 64 and 1,024. Then the jobs, then those with a check.
+use crate::Random;
+
+/// Records of depth 10 with 8 lamps and a check: two readings, 64 and 1,024. Then the jobs, then those with a check, then those for even tables.
 pub fn records() -> Vec<Vec<u8>> {
     let record = |readings: u64| Record {
         settings: vec![10, 0, 1, 60, 100],
@@ -12,7 +14,7 @@ pub fn records() -> Vec<Vec<u8>> {
         luminances: (0..readings).map(|i| 1_000 + 3_000 * i).collect(),
         check: (0..18).map(|i| 10_000 + 1_000 * i).collect(),
     };
-    [2, 64, 1024].map(record).iter().chain(&jobs()).chain(&checks()).map(Record::bytes).collect()
+    [2, 64, 1024].map(record).iter().chain(&jobs()).chain(&checks()).chain(&evens()).map(Record::bytes).collect()
 }
 
 /// A sound job of a primary display; the readings rise with the square of the level.
@@ -37,4 +39,35 @@ fn checks() -> [Record; 3] {
         patches.map(|patch| patch - room_light).collect()
     };
     [job(10, &[10, 20], 1024, &off_by(1)), job(10, &[10, 20], 52, &off_by(1)), job(10, &[10, 20], 1024, &off_by(5))]
+}
+
+/// A display without lamps or check, with an allowed error; the reading at a level comes from the level and the last one.
+fn display(depth: u64, readings: u64, tolerance: u64, reading: impl Fn(u64, u64) -> u64) -> Record {
+    let last = (1 << depth) - 1;
+    let ddls: Vec<u64> = (0..readings).map(|i| last * i / (readings - 1)).collect();
+    let luminances = ddls.iter().map(|&ddl| reading(ddl, last)).collect();
+    Record { settings: vec![depth, 0, 1, 60, tolerance], lamps: vec![], ddls, luminances, check: vec![] }
+}
+
+/// Six common displays; one whose levels are scattered over its range and allowed up to twice a target; two without a table, by their second P-value and by their last.
+fn evens() -> Vec<Record> {
+    let gsdf = Gsdf::from_data_file();
+    let power = |ddl: u64, last: u64| 5_000 + 3_500_000 * ddl * ddl / (last * last);
+    let s_curve = |ddl: u64, last: u64| 8_000 + 4_000_000 * ddl * ddl * (3 * last - 2 * ddl) / (last * last * last);
+    let range = Range { jlo: 8_000, jhi: 80_000 };
+    let mut random = Random(0x9e37_79b9_7f4a_7c15);
+    let mut scattered: Vec<u64> = (0..1_024).map(|_| gsdf.luminance(range.jlo + random.below(range.width() + 1))).collect();
+    scattered.sort_unstable();
+    let targets = range.targets(&gsdf, 255);
+    vec![
+        display(8, 18, 200, power),
+        display(8, 256, 150, s_curve),
+        display(10, 64, 20, power),
+        display(10, 1_024, 100, power),
+        display(10, 52, 50, s_curve),
+        display(10, 1_024, 200, s_curve),
+        display(10, 1_024, 1_000, |ddl, _| scattered[ddl as usize]),
+        display(10, 1_024, 0, power),
+        display(8, 256, 0, |ddl, last| targets[ddl as usize] + ddl / last),
+    ]
 }

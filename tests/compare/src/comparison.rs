@@ -1,4 +1,5 @@
 //! Counts what is compared.
+use std::fmt::Debug;
 
 /// Counts comparisons by name; the first difference of each is printed.
 pub struct Comparison {
@@ -25,6 +26,30 @@ impl Comparison {
                 println!("{}: {difference}", self.name);
             }
             self.wrong += 1;
+        }
+    }
+
+    /// A comparison that has to find a difference.
+    pub fn seen_difference(&mut self, difference: Option<String>) {
+        self.count(difference.map_or(Some("a difference is not seen".to_string()), |_| None));
+    }
+
+    /// Each change makes an answer another one; the answer itself is as expected.
+    pub fn seen_changes<A: Clone>(&mut self, answer: &A, changes: &[fn(&mut A)], difference: impl Fn(&A) -> Option<String>) {
+        for change in changes {
+            let mut changed = answer.clone();
+            change(&mut changed);
+            self.seen_difference(difference(&changed));
+        }
+        self.count(difference(answer));
+    }
+
+    /// Each fact of engine and reference.
+    pub fn facts<A, F: Debug>(&mut self, name: &str, answers: &mut [A; 2], facts: &[F], holds: fn(&F, &mut A) -> bool) {
+        for fact in facts {
+            for (side, answer) in ["engine", "reference"].into_iter().zip(&mut *answers) {
+                self.count((!holds(fact, answer)).then(|| format!("{name}, {side}: not {fact:?}")));
+            }
         }
     }
 

@@ -16,27 +16,64 @@ impl Entry for u16 {
     }
 }
 
+impl Entry for u32 {
+    fn any(random: &mut Random) -> u32 {
+        random.below(1 << 32) as u32
+    }
+}
+
 impl Entry for i32 {
     fn any(random: &mut Random) -> i32 {
         random.below(1 << 32) as i32
     }
 }
 
-/// A record and a slice to lend. The record ends where its memory ends; the slice is filled with noise, and has entries around it.
+/// A slice to lend, filled with noise, and entries around it.
 #[derive(Clone)]
-pub struct Lent<T> {
-    /// One byte, so that the record stands at an odd address, and the record.
-    pub bytes: Vec<u8>,
-    pub memory: Vec<T>,
+pub struct Memory<T> {
+    pub all: Vec<T>,
     /// The place of the first entry lent: even, or odd, where its address is no multiple of two entries' size.
     pub first: usize,
 }
 
+impl<T: Entry> Memory<T> {
+    pub fn new(random: &mut Random, entries: usize) -> Memory<T> {
+        let first = AROUND + random.place(2);
+        Memory { all: (0..first + entries + AROUND).map(|_| T::any(random)).collect(), first }
+    }
+
+    pub fn entries(&self) -> usize {
+        self.all.len() - self.first - AROUND
+    }
+
+    /// An allocation begins at a multiple of two entries' size, which is tested here.
+    pub fn slice(&mut self) -> &mut [T] {
+        let size = std::mem::size_of::<T>();
+        let end = self.all.len() - AROUND;
+        let slice = &mut self.all[self.first..end];
+        assert_eq!(slice.as_ptr() as usize % (2 * size), size * (self.first % 2));
+        slice
+    }
+
+    /// The first place where this is not as expected; the first `free` entries lent may be anything.
+    pub fn difference(&self, name: &str, expected: &Memory<T>, free: usize) -> Option<String> {
+        let (before, kept) = (self.first, self.first + free);
+        memory(&format!("before the {name}"), &self.all[..before], &expected.all[..before])
+            .or_else(|| memory(&format!("{name} from {free} on"), &self.all[kept..], &expected.all[kept..]))
+    }
+}
+
+/// A record and a slice to lend. The record ends where its memory ends.
+#[derive(Clone)]
+pub struct Lent<T> {
+    /// One byte, so that the record stands at an odd address, and the record.
+    pub bytes: Vec<u8>,
+    pub memory: Memory<T>,
+}
+
 impl<T: Entry> Lent<T> {
     pub fn new(random: &mut Random, record: &[u8], entries: usize) -> Lent<T> {
-        let first = AROUND + random.place(2);
-        let memory = (0..first + entries + AROUND).map(|_| T::any(random)).collect();
-        Lent { bytes: [&[255][..], record].concat(), memory, first }
+        Lent { bytes: [&[255][..], record].concat(), memory: Memory::new(random, entries) }
     }
 
     pub fn record(&self) -> &[u8] {
@@ -44,28 +81,24 @@ impl<T: Entry> Lent<T> {
     }
 
     pub fn entries(&self) -> usize {
-        self.memory.len() - self.first - AROUND
+        self.memory.entries()
     }
 
     pub fn slice(&mut self) -> &mut [T] {
-        self.parts().1
+        self.memory.slice()
     }
 
-    /// The record and the slice, for a call. An allocation begins at a multiple of two entries' size, which is tested here.
+    /// The record and the slice, for a call.
     pub fn parts(&mut self) -> (&mut [u8], &mut [T]) {
-        let size = std::mem::size_of::<T>();
-        let end = self.memory.len() - AROUND;
-        let slice = &mut self.memory[self.first..end];
         assert_eq!(self.bytes.capacity(), self.bytes.len());
         assert_eq!(self.bytes[1..].as_ptr() as usize % 2, 1);
-        assert_eq!(slice.as_ptr() as usize % (2 * size), size * (self.first % 2));
-        (&mut self.bytes[1..], slice)
+        (&mut self.bytes[1..], self.memory.slice())
     }
 
     /// The first place where this is not as expected.
     pub fn difference(&self, expected: &Lent<T>) -> Option<String> {
-        let name = format!("entries, the first lent at place {}", self.first);
-        memory(&name, &self.memory, &expected.memory).or_else(|| memory("record, its first byte at place 1", &self.bytes, &expected.bytes))
+        let bytes = || memory("record, its first byte at place 1", &self.bytes, &expected.bytes);
+        self.memory.difference("entries", &expected.memory, 0).or_else(bytes)
     }
 }
 

@@ -1,12 +1,13 @@
 //! Compares the engine with the reference by running both, and ends with 'N passed, M failed'.
 //!
 //!   compare                   everything, with the jobs of the gate
-//!   compare COUNT [SEED]      so many drawn jobs alone
+//!   compare COUNT [SEED]      so many drawn jobs alone; for the even table, which takes longer, a quarter as many
 
 use reference::engine::Engine;
 
 mod check_tests;
 mod comparison;
+mod even_tests;
 mod gsdf_tests;
 mod jobs;
 mod lent;
@@ -19,12 +20,14 @@ fn everything(reference: &Engine) -> Vec<bool> {
     let mut results = gsdf_tests::results(&reference.gsdf);
     results.extend(record_tests::results());
     results.extend(nearest_tests::results(reference));
+    results.extend(even_tests::results(reference));
     results.extend(check_tests::results(reference));
     results
 }
 
 fn drawn_jobs(reference: &Engine, count: u64, seed: u64) -> Vec<bool> {
     let mut results = nearest_tests::generated_results(reference, count, seed);
+    results.extend(even_tests::generated_results(reference, count, seed));
     results.extend(check_tests::generated_results(reference, count, seed));
     results
 }

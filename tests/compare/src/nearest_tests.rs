@@ -91,9 +91,9 @@ const CHANGES: [Change; 17] = [
     |answer| answer.lent.slice()[255] ^= 1,
     |answer| answer.lent.slice()[256] ^= 1,
     |answer| answer.lent.slice()[299] ^= 32_768,
-    |answer| answer.lent.memory[answer.lent.first - 1] ^= 1,
-    |answer| answer.lent.memory[answer.lent.first + 300] ^= 1,
-    |answer| answer.lent.memory.truncate(answer.lent.first + 299),
+    |answer| answer.lent.memory.all[answer.lent.memory.first - 1] ^= 1,
+    |answer| answer.lent.memory.all[answer.lent.memory.first + 300] ^= 1,
+    |answer| answer.lent.memory.all.truncate(answer.lent.memory.first + 299),
     |answer| answer.lent.bytes[0] ^= 1,
     |answer| answer.lent.bytes[1] ^= 128,
     |answer| *answer.lent.bytes.last_mut().expect("a record has bytes") ^= 1,
@@ -105,12 +105,7 @@ fn differences_are_seen(reference: &Engine) -> bool {
     let (_, bytes) = &crate::record_tests::order::example_records()[0];
     let lent = Lent::new(&mut Random::new(0), bytes, 300);
     let expected = Answer::of_reference(reference, &lent);
-    for change in CHANGES {
-        let mut changed = expected.clone();
-        change(&mut changed);
-        all.count(changed.difference(&expected).map_or(Some("a difference is not seen".to_string()), |_| None));
-    }
-    all.count(expected.difference(&expected.clone()));
+    all.seen_changes(&expected, &CHANGES, |answer| answer.difference(&expected));
     all.ended(18)
 }
 

@@ -55,17 +55,19 @@ fn engine_difference(got: &RecordValues, expected: &Answer) -> Option<String> {
 }
 
 /// The operations refuse what reading refuses, and else nothing but a curve: under 8, 9 or 10; and a check besides under 12 or 13.
-fn operations_difference([nearest, check]: [u32; 2], number: u32) -> Option<String> {
+fn operations_difference([nearest, even, check]: [u32; 3], number: u32) -> Option<String> {
     let agrees = match number {
         0 => matches!(nearest, 0 | 8..=10) && (check == nearest || nearest == 0 && matches!(check, 12 | 13)),
         _ => nearest == number && check == number,
     };
-    (!agrees).then(|| format!("nearest gives number {nearest}, check {check}, reading {number}"))
+    (!agrees || even != nearest).then(|| format!("nearest gives number {nearest}, even {even}, check {check}, reading {number}"))
 }
 
-/// The numbers under which a nearest table and a check are refused, 0 for none.
-fn operations_numbers(bytes: &[u8]) -> [u32; 2] {
-    [yepidlaw::nearest(bytes, &mut [0; 256]).refusal, yepidlaw::check(bytes, &mut [0; 17]).refusal]
+/// The numbers under which a nearest table, an even table and a check are refused, 0 for none. Where a nearest table is made, an even one would take long, and other tests make it.
+fn operations_numbers(bytes: &[u8]) -> [u32; 3] {
+    let nearest = yepidlaw::nearest(bytes, &mut [0; 256]).refusal;
+    let even = if nearest == 0 { 0 } else { yepidlaw::even(bytes, &mut [0; 256], &mut [0; 8_192]).refusal };
+    [nearest, even, yepidlaw::check(bytes, &mut [0; 17]).refusal]
 }
 
 fn reference_difference(got: &Answer, expected: &Answer) -> Option<String> {
@@ -169,28 +171,25 @@ const CHANGES: [Change; 21] = [
 /// The comparison sees every change of the engine's values, of the reference's and of the operations' numbers.
 fn differences_are_seen() -> bool {
     let mut all = Comparison::new("record: differences are seen");
-    let unseen = |seen: Option<String>| seen.map_or(Some("a difference is not seen".to_string()), |_| None);
     let record = sound(9, 8, 37, 18);
     let expected = Answer { number: 0, record: Some(record.clone()) };
-    let values = engine::read(&record.bytes());
-    for change in CHANGES {
-        let mut changed = values;
-        change(&mut changed);
-        all.count(unseen(engine_difference(&changed, &expected)));
-    }
+    all.seen_changes(&engine::read(&record.bytes()), &CHANGES, |values| engine_difference(values, &expected));
     let mut other = record.clone();
     other.check[17] += 1;
     for got in [Answer { number: 5, record: Some(record) }, Answer { number: 0, record: None }, Answer { number: 0, record: Some(other) }] {
-        all.count(unseen(reference_difference(&got, &expected)));
+        all.seen_difference(reference_difference(&got, &expected));
     }
-    for (nearest, number) in [(1, 0), (2, 0), (7, 0), (11, 0), (0, 2), (0, 7), (3, 2), (2, 3), (8, 7), (10, 5)] {
-        all.count(unseen(operations_difference([nearest, nearest], number)));
+    for (all_three, number) in [(1, 0), (2, 0), (7, 0), (11, 0), (0, 2), (0, 7), (3, 2), (2, 3), (8, 7), (10, 5)] {
+        all.seen_difference(operations_difference([all_three; 3], number));
     }
     for (nearest, check, number) in [(0, 1, 0), (0, 8, 0), (0, 11, 0), (8, 0, 0), (8, 12, 0), (10, 13, 0), (2, 0, 2), (7, 12, 7), (5, 6, 5)]
     {
-        all.count(unseen(operations_difference([nearest, check], number)));
+        all.seen_difference(operations_difference([nearest, nearest, check], number));
     }
-    all.ended(43)
+    for (nearest, even, number) in [(0, 11, 0), (8, 0, 0), (8, 11, 0), (10, 9, 0), (2, 0, 2), (2, 3, 2), (3, 2, 3), (5, 1, 5), (7, 8, 7)] {
+        all.seen_difference(operations_difference([nearest, even, nearest], number));
+    }
+    all.ended(53)
 }
 
 pub fn results() -> Vec<bool> {

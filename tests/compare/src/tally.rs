@@ -17,6 +17,15 @@ impl Tally {
         self.seen[place] += 1;
     }
 
+    /// Adds each property that holds; the names are theirs.
+    pub fn add_each<T>(&mut self, properties: &[(&str, T)], holds: impl Fn(&T) -> bool) {
+        for (place, (_, property)) in properties.iter().enumerate() {
+            if holds(property) {
+                self.add(place);
+            }
+        }
+    }
+
     /// Whether each was seen so often.
     pub fn ended(self, least: u64) -> bool {
         let each: Vec<String> = self.names.iter().zip(&self.seen).map(|(name, seen)| format!("{name}: {seen}")).collect();

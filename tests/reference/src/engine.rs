@@ -1,13 +1,16 @@
 //! The operations on a job record: the tests in order, then the result.
 use crate::contrast::{Contrast, PAIRS};
 use crate::curve;
+use crate::even;
 use crate::gsdf::Gsdf;
-use crate::nearest::{self, Table};
+use crate::nearest;
 use crate::record::{self, Record};
 use crate::target::Range;
 
 const LAST_P_VALUE: u64 = 255;
 const LEAST_RANGE: u64 = 10_000;
+/// The working space: a bit for each P-value and level of the deepest display.
+const LEAST_WORDS: usize = 256 * 1_024 / 32;
 
 /// What a sound job is worked out from.
 pub struct Sound {
@@ -52,12 +55,22 @@ impl Engine {
     }
 
     /// The job and its nearest table, for a lent slice of so many entries, or the first of 1 to 10 that it meets.
-    pub fn nearest(&self, bytes: &[u8], entries: usize) -> Result<(Sound, Table), u32> {
+    pub fn nearest(&self, bytes: &[u8], entries: usize) -> Result<(Sound, nearest::Table), u32> {
         if entries as u64 <= LAST_P_VALUE {
             return Err(1);
         }
         let job = self.sound(bytes)?;
         let table = nearest::table(&job.curve, &job.targets);
+        Ok((job, table))
+    }
+
+    /// The job and its even table, for lent slices of so many entries and working words, or the first of 1 to 11 that it meets.
+    pub fn even(&self, bytes: &[u8], entries: usize, words: usize) -> Result<(Sound, even::Table), u32> {
+        if entries as u64 <= LAST_P_VALUE || words < LEAST_WORDS {
+            return Err(1);
+        }
+        let job = self.sound(bytes)?;
+        let table = even::table(&job.curve, &job.targets, job.record.tolerance()).ok_or(11u32)?;
         Ok((job, table))
     }
 

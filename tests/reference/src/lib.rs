@@ -2,6 +2,7 @@
 pub mod contrast;
 pub mod curve;
 pub mod engine;
+pub mod even;
 pub mod gsdf;
 pub mod nearest;
 pub mod record;

@@ -117,6 +117,11 @@ impl Record {
         self.settings[3]
     }
 
+    /// w.
+    pub fn tolerance(&self) -> u64 {
+        self.settings[4]
+    }
+
     /// M of a depth in range.
     pub fn last_ddl(&self) -> u64 {
         2u64.pow(self.depth() as u32) - 1

@@ -142,26 +142,14 @@ impl Seen {
     }
 
     fn made(&mut self, job: &Sound, check: &Contrast) {
-        for (place, (_, holds)) in PROPERTIES.iter().enumerate() {
-            if holds(job, check) {
-                self.properties.add(place);
-            }
-        }
+        self.properties.add_each(&PROPERTIES, |holds| holds(job, check));
         for pair in (0..PAIRS).filter(|&pair| fails_alone(job, check, pair)) {
-            for (place, (_, holds)) in ALONE.iter().enumerate() {
-                if holds(&check.pairs[pair]) {
-                    self.alone.add(place);
-                }
-            }
+            self.alone.add_each(&ALONE, |holds| holds(&check.pairs[pair]));
         }
     }
 
     fn refused(&mut self, gsdf: &Gsdf, number: u32, patches: &[u64]) {
-        for (place, (_, holds)) in NEAR_MISSES.iter().enumerate() {
-            if holds(gsdf, number, patches) {
-                self.near_misses.add(place);
-            }
-        }
+        self.near_misses.add_each(&NEAR_MISSES, |holds| holds(gsdf, number, patches));
     }
 
     fn ended(self, all: bool) -> Vec<bool> {
@@ -192,7 +180,7 @@ pub fn results(reference: &Engine, count: u64, seed: u64) -> Vec<bool> {
         let length = length(&mut random);
         let lent = Lent::new(&mut random, &job.bytes, LENGTHS[length]);
         seen.lengths.add(length);
-        seen.addresses.add(lent.first % 2);
+        seen.addresses.add(lent.memory.first % 2);
         let expected = match reference.check(&job.bytes, lent.entries()) {
             Err(number) => {
                 if 11 < number {

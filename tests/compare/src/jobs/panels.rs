@@ -2,6 +2,7 @@
 use std::collections::BTreeSet;
 
 use reference::gsdf::Gsdf;
+use reference::record::Record;
 
 use super::ends::Ends;
 use crate::random::Random;
@@ -25,8 +26,11 @@ pub enum Shape {
     Exact,
     /// Levels equally far from a target, nearly so, and plateaus around it.
     Ties,
+    /// At the targets, but with no level between the least luminance allowed at one P-value and the most allowed at the next, or a unit further.
+    Gap,
 }
 
+/// All but the gap, which is for the even table.
 pub const SHAPES: [Shape; 12] = [
     Shape::Linear,
     Shape::Gamma,
@@ -127,6 +131,11 @@ fn around_targets(random: &mut Random, gsdf: &Gsdf, ends: &Ends, levels: usize) 
         }
     }
     curve.push(ends.last + ends.added);
+    readings_of(random, ends, curve, levels)
+}
+
+/// A reading for so many levels, of these luminances; where they are too few, some twice or more often.
+fn readings_of(random: &mut Random, ends: &Ends, curve: Vec<u64>, levels: usize) -> Vec<u64> {
     let mut luminances: Vec<u64> = curve.into_iter().map(|luminance| luminance.saturating_sub(ends.added)).take(levels).collect();
     while luminances.len() < levels {
         luminances.push(random.one_of(&luminances));
@@ -134,14 +143,35 @@ fn around_targets(random: &mut Random, gsdf: &Gsdf, ends: &Ends, levels: usize) 
     luminances
 }
 
-/// The DDLs and luminances of a sweep with these ends. Where they leave the table there are no targets, and a shape that needs them is linear.
-pub fn sweep(random: &mut Random, gsdf: &Gsdf, shape: Shape, ends: &Ends, last_ddl: u64) -> (Vec<u64>, Vec<u64>) {
-    let ddls = if matches!(shape, Shape::Exact | Shape::Ties) { (0..=last_ddl).collect() } else { positions(random, last_ddl) };
+/// A reading for every level. The gap is often at the first steps or the last, or where its ends are at the limit of the allowed error to the unit.
+fn with_gap(random: &mut Random, gsdf: &Gsdf, ends: &Ends, record: &Record) -> Vec<u64> {
+    let targets = ends.range(gsdf).targets(gsdf, 255);
+    let error = |p: usize| record.tolerance() * targets[p];
+    let whole: Vec<usize> = (0..255).filter(|&p| error(p) % 1_000 == 0 || error(p + 1) % 1_000 == 0).collect();
+    let p = match random.below(5) {
+        0 => random.place(3),
+        1 => 254 - random.place(3),
+        2 | 3 if !whole.is_empty() => random.one_of(&whole),
+        _ => random.place(255),
+    };
+    let (low, high) = (targets[p] - error(p) / 1_000, targets[p + 1] + error(p + 1) / 1_000);
+    let (low, high) = random.one_of(&[(low, high), (low.saturating_sub(1), high), (low, high + 1)]);
+    let mut curve: Vec<u64> = targets.into_iter().filter(|&target| target < low || high < target).collect();
+    curve.extend([low, high]);
+    readings_of(random, ends, curve, record.last_ddl() as usize + 1)
+}
+
+/// The DDLs and luminances of a sweep with these ends, for a record that has its settings. Where they leave the table there are no targets, and a shape that needs them is linear.
+pub fn sweep(random: &mut Random, gsdf: &Gsdf, shape: Shape, ends: &Ends, record: &Record) -> (Vec<u64>, Vec<u64>) {
+    let last_ddl = record.last_ddl();
+    let every_level = matches!(shape, Shape::Exact | Shape::Ties | Shape::Gap);
+    let ddls = if every_level { (0..=last_ddl).collect() } else { positions(random, last_ddl) };
     let mut luminances: Vec<u64> = match shape {
         Shape::Scattered => scattered(random, ends, ddls.len()),
         Shape::Perceptual if ends.in_table(gsdf) => perceptual(gsdf, ends, &ddls),
         Shape::Exact if ends.in_table(gsdf) => at_targets(gsdf, ends, &ddls),
         Shape::Ties if ends.in_table(gsdf) => around_targets(random, gsdf, ends, ddls.len()),
+        Shape::Gap if ends.in_table(gsdf) => with_gap(random, gsdf, ends, record),
         _ => {
             let response = response(random, shape);
             let rise = (ends.last - ends.first) as f64;

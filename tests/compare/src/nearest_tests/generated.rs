@@ -106,11 +106,7 @@ impl Seen {
     fn sound(&mut self, job: &Sound, table: &Table) {
         self.sound += 1;
         self.marks.add(usize::from(job.room_high));
-        for (place, (_, holds)) in PROPERTIES.iter().enumerate() {
-            if holds(job, table) {
-                self.properties.add(place);
-            }
-        }
+        self.properties.add_each(&PROPERTIES, |holds| holds(job, table));
         self.tables.insert(table.entries.clone());
     }
 
@@ -148,7 +144,7 @@ pub fn results(reference: &Engine, count: u64, seed: u64) -> Vec<bool> {
         let length = length(&mut random);
         let lent = Lent::new(&mut random, &job.bytes, LENGTHS[length]);
         seen.lengths.add(length);
-        seen.addresses.add(lent.first % 2);
+        seen.addresses.add(lent.memory.first % 2);
         let expected = match reference.nearest(&job.bytes, lent.entries()) {
             Err(number) => {
                 if let Some(place) = near_miss(&reference.gsdf, &job.bytes, number) {

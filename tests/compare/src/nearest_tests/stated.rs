@@ -193,13 +193,9 @@ fn compare(reference: &Engine, name: &'static str, examples: Vec<Example>, expec
     let mut all = Comparison::new(name);
     for (name, bytes, entries, facts) in examples {
         let lent = Lent::new(&mut random, &bytes, entries);
-        let mut of_engine = Answer::of_engine(&lent);
-        let mut of_reference = Answer::of_reference(reference, &lent);
-        for fact in facts {
-            all.count((!fact.holds(&mut of_engine)).then(|| format!("{name}, engine: not {fact:?}")));
-            all.count((!fact.holds(&mut of_reference)).then(|| format!("{name}, reference: not {fact:?}")));
-        }
-        all.count(of_engine.difference(&of_reference).map(|difference| format!("{name}, {difference}")));
+        let mut answers = [Answer::of_engine(&lent), Answer::of_reference(reference, &lent)];
+        all.facts(&name, &mut answers, &facts, Fact::holds);
+        all.count(answers[0].difference(&answers[1]).map(|difference| format!("{name}, {difference}")));
     }
     all.ended(expected)
 }
