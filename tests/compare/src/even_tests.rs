@@ -2,6 +2,7 @@
 mod any_length;
 mod every;
 mod generated;
+mod held;
 mod least_error;
 mod order;
 mod problems;
@@ -225,6 +226,7 @@ pub fn results(reference: &Engine) -> Vec<bool> {
     results.push(order::lowest_number(reference));
     results.extend(every::results(reference));
     results.push(least_error::least_errors(reference));
+    results.push(held::before(reference));
     results.extend(small::results());
     results.extend(any_length::results());
     results.extend(generated_results(reference, jobs::COUNT, jobs::SEED));

@@ -32,13 +32,13 @@ impl Entry for i32 {
 #[derive(Clone)]
 pub struct Memory<T> {
     pub all: Vec<T>,
-    /// The place of the first entry lent: even, or odd, where its address is no multiple of two entries' size.
+    /// The place of the first entry lent, so that its address is any multiple of an entry's size; where it is odd, no multiple of two entries' size.
     pub first: usize,
 }
 
 impl<T: Entry> Memory<T> {
     pub fn new(random: &mut Random, entries: usize) -> Memory<T> {
-        let first = AROUND + random.place(2);
+        let first = AROUND + random.place(8);
         Memory { all: (0..first + entries + AROUND).map(|_| T::any(random)).collect(), first }
     }
 

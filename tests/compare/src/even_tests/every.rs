@@ -5,12 +5,13 @@ use super::{display, examples, wrong, wrong_or_other, Answer, Lent, ENTRIES, WOR
 use crate::lent::Answers;
 use crate::random::Random;
 
-const LENGTHS_OF_WORDS: [usize; 16] = [0, 1, 32, 255, 256, 2_047, 2_048, 4_096, 8_190, 8_191, 8_192, 8_193, 8_194, 9_000, 65_536, 70_000];
+const LENGTHS_OF_WORDS: [usize; 18] =
+    [0, 1, 32, 255, 256, 2_047, 2_048, 4_096, 8_190, 8_191, 8_192, 8_193, 8_194, 9_000, 65_536, 70_000, 131_072, 1_048_576];
 
 fn lengths(reference: &Engine) -> bool {
     let mut random = Random::new(24);
     let mut all = Answers::new("even: every length");
-    let of_entries = (0..=258).chain([300, 65_535, 65_536, 70_000]).map(|entries| [entries, WORDS]);
+    let of_entries = (0..=258).chain([300, 65_535, 65_536, 70_000, 131_072, 1_048_576]).map(|entries| [entries, WORDS]);
     let lengths: Vec<[usize; 2]> = of_entries.chain(LENGTHS_OF_WORDS.map(|words| [ENTRIES, words])).collect();
     for (_, bytes, number) in examples() {
         for &[entries, words] in &lengths {
@@ -19,7 +20,7 @@ fn lengths(reference: &Engine) -> bool {
             all.count(&lent.table, wrong_or_other(reference, &lent, number));
         }
     }
-    all.ended(26 * (259 + 4 + 16))
+    all.ended(26 * (259 + 6 + 18))
 }
 
 /// Every allowed error; as it grows there is no table, and then one whose worst step is never larger than that before.

@@ -106,12 +106,32 @@ fn large_product() -> Problem {
     Problem { curve: vec![5_000_000, 15_000_001, 30_416_127], targets, tolerance: 500 }
 }
 
+/// The darkest levels are one unit apart, and the higher one leads to a worst step that is one smaller.
+fn one_apart() -> Problem {
+    Problem { curve: vec![8_699, 8_700, 12_100], targets: vec![10_000, 11_000], tolerance: 200 }
+}
+
+/// Two targets, and a curve that ends at each level in turn, so that the levels allowed at the last target end at every place of a word; the last level but one is brighter than it should be.
+fn every_end() -> bool {
+    let mut random = Random::new(26);
+    let mut all = Comparison::new("even: every end of the last row");
+    for end in 13..1_024 {
+        let mut curve: Vec<u64> = (0..=end).map(|d| 1_000_000 + 1_000 * d).collect();
+        curve[end as usize - 1] += 300;
+        let problem = Problem { targets: vec![curve[end as usize - 12], curve[end as usize]], curve, tolerance: 1 };
+        let table = even::table(&problem.curve, &problem.targets, problem.tolerance);
+        all.count(problem.difference(&mut random, table.as_ref()).map(|difference| format!("end {end}: {difference}")));
+    }
+    all.ended(1_011)
+}
+
 fn stated() -> bool {
     let mut random = Random::new(27);
     let mut all = Comparison::new("even: small problems, stated");
-    let problem = large_product();
     let stated = Table { entries: vec![0, 1, 1, 2], worst_step: 10_000_000_000, tie: false };
-    all.count(problem.difference(&mut random, Some(&stated)));
+    all.count(large_product().difference(&mut random, Some(&stated)));
+    let stated = Table { entries: vec![1, 2], worst_step: 2_400, tie: false };
+    all.count(one_apart().difference(&mut random, Some(&stated)));
     for (problem, worst_step, entries) in marked_steps() {
         let stated = Table { entries, worst_step, tie: false };
         all.count(problem.difference(&mut random, Some(&stated)).map(|difference| format!("{problem:?}: {difference}")));
@@ -124,7 +144,7 @@ fn stated() -> bool {
         let difference = difference.or_else(|| problem.difference(&mut random, table.as_ref()));
         all.count(difference.map(|difference| format!("{problem:?}: {difference}")));
     }
-    all.ended(1 + 5 + 20)
+    all.ended(2 + 5 + 20)
 }
 
 /// Engine and reference against what every list gives.
@@ -145,7 +165,7 @@ fn drawn() -> Vec<bool> {
 }
 
 pub fn results() -> Vec<bool> {
-    let mut results = vec![stated()];
+    let mut results = vec![stated(), every_end()];
     results.extend(drawn());
     results
 }
