@@ -1,0 +1,19 @@
+// Reads a job record from standard input, and writes the report on it to standard output.
+ghost use Prim.Native.Nat.{_≤_};
+ghost use lib.ListN.{length};
+
+fn print(text: &[u8], size: usize)
+    requires { ⌜ size ≤ length (now text) ⌝ }
+{
+    io::write_all(1, &text[..size]);
+}
+
+fn main() {
+    // One byte more than the longest record: a longer input is known to be too long, and the rest of it is not read.
+    let mut record = [0u8; 6251];
+    let read = io::read_full(0, &mut record);
+    let mut work = [0u32; 8192];
+    let report = report::report_on(&record[..read], &mut work);
+    let size = report.size;
+    print(&report.text, size);
+}
