@@ -6,4 +6,5 @@ pub mod even;
 pub mod gsdf;
 pub mod nearest;
 pub mod record;
+pub mod report;
 pub mod target;
