@@ -1,6 +1,7 @@
 //! What is lent to an operation, and comparisons of its answers.
 use crate::comparison::{field, start, Comparison};
 use crate::random::Random;
+use crate::record_tests::job_difference;
 
 /// Entries before and after a lent slice, which nobody may touch.
 const AROUND: usize = 40;
@@ -95,10 +96,10 @@ impl<T: Entry> Lent<T> {
         (&mut self.bytes[1..], self.memory.slice())
     }
 
-    /// The first place where this is not as expected.
+    /// The first place where this is not as expected, or where its record is not read as tools/job reads it.
     pub fn difference(&self, expected: &Lent<T>) -> Option<String> {
         let bytes = || memory("record, its first byte at place 1", &self.bytes, &expected.bytes);
-        self.memory.difference("entries", &expected.memory, 0).or_else(bytes)
+        self.memory.difference("entries", &expected.memory, 0).or_else(bytes).or_else(|| job_difference(self.record()))
     }
 }
 

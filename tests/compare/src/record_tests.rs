@@ -24,6 +24,29 @@ impl Answer {
             Ok(record) => Answer { number: record::judge(&record).err().unwrap_or(0), record: Some(record) },
         }
     }
+
+    /// What tools/job reads.
+    fn of_job(bytes: &[u8]) -> Answer {
+        match job::record::read_any(bytes) {
+            Err(refused) => Answer { number: refused.number, record: None },
+            Ok(job) => Answer { number: job.fault().map_or(0, |fault| fault.refusal), record: Some(record_of(&job)) },
+        }
+    }
+}
+
+fn record_of(job: &job::job::Job) -> Record {
+    Record {
+        settings: job.settings.iter().map(|&setting| setting.into()).collect(),
+        lamps: job.lamps.iter().map(|&lux| lux.into()).collect(),
+        ddls: job.sweep.iter().map(|reading| reading.level.into()).collect(),
+        luminances: job.sweep.iter().map(|reading| reading.luminance.into()).collect(),
+        check: job.check.iter().map(|&luminance| luminance.into()).collect(),
+    }
+}
+
+/// The first place where the engine reads something else than tools/job does. Every record that is compared goes through it.
+pub fn job_difference(bytes: &[u8]) -> Option<String> {
+    engine_difference(&engine::read(bytes), &Answer::of_job(bytes)).map(|difference| format!("tools/job, {difference}"))
 }
 
 /// The first place where the engine's values are not this answer; a refused record has no job and so no lux.
@@ -111,7 +134,7 @@ impl Records {
 
     fn count(&mut self, bytes: &[u8], number: u32, difference: Option<String>) {
         let input = self.0.seen();
-        let difference = difference.or_else(|| operations_difference(operations_numbers(bytes), number));
+        let difference = difference.or_else(|| operations_difference(operations_numbers(bytes), number)).or_else(|| job_difference(bytes));
         self.0.count(difference.map(|difference| format!("input {input} ({} bytes, {:?}): {difference}", bytes.len(), start(bytes))));
     }
 
