@@ -1,13 +1,28 @@
 # make test     proves everything and runs all tests
 # make bench    measures, and writes docs/BENCHMARK.md
+# make memory   runs the program on every vector under Valgrind's memcheck
+# make job      builds tools/job, as tests/target/release/job
+# make vectors  writes the records and reports of tests/vectors, and the reports of the samples
 # make table    writes the sources of Table B-1 from data/table-b1.tsv
-.PHONY: test bench table
+.PHONY: test bench memory job vectors table
+
+cargo = cargo build --release --offline --locked --manifest-path tests/Cargo.toml --target-dir tests/target
 
 test:
 	.ci/run
 
 bench:
 	tools/bench
+
+memory:
+	tests/memory
+
+job:
+	$(cargo) -p job
+
+vectors:
+	$(cargo) -p vectors
+	tests/target/release/vectors write
 
 table:
 	tools/table-b1 write
