@@ -1,7 +1,7 @@
 //! Runs the program on an input that arrives in one way or another.
 use std::fs::File;
 use std::io::{Read, Write};
-use std::process::{Child, Command, Stdio};
+use std::process::{exit, Child, Command, Stdio};
 use std::thread;
 use std::time::{Duration, Instant};
 
@@ -63,7 +63,10 @@ impl Program {
             Input::Pipe { .. } => command.stdin(Stdio::piped()),
             Input::Null | Input::Closed => command.stdin(Stdio::null()),
         };
-        let mut child = command.spawn().unwrap_or_else(|error| panic!("{}: {error}", self.words.join(" ")));
+        let mut child = command.spawn().unwrap_or_else(|error| {
+            eprintln!("{}: {error}", self.words.join(" "));
+            exit(2)
+        });
         if let Input::Pipe { pieces, pause, left_open } = input {
             feed(&mut child, pieces, pause, left_open);
         }
