@@ -5,6 +5,9 @@ use reference::record::Record;
 use crate::jobs::{changed, checked, count_places, full, longest, small, TELESCOPIC};
 use crate::vector::Vector;
 
+/// A number, a name, what it is, and what is changed in a job.
+type Fault = (u32, &'static str, &'static str, fn(&mut Record));
+
 const SECTIONS: [&str; 4] = ["settings", "lamps", "sweep", "check"];
 
 /// Under 2: each count cut short, and the items of each section.
@@ -26,54 +29,40 @@ fn cut_short(engine: &Engine) -> Vec<Vector> {
     vectors
 }
 
-/// Under 3: counts not permitted, with as many items as they say where these can be; and what is met first.
+/// A full record with another count for a section.
+fn with_count(engine: &Engine, section: usize, count: u16) -> Vec<u8> {
+    let record = full(engine);
+    let mut bytes = record.bytes();
+    let place = count_places(&record)[section];
+    bytes[place..place + 2].copy_from_slice(&count.to_le_bytes());
+    bytes
+}
+
+/// Under 3: counts not permitted, with as many items as they say.
+#[rustfmt::skip]
+const COUNTS: [Fault; 8] = [
+    (3, "settings-4", "4 settings", |record| record.settings.truncate(4)),
+    (3, "settings-6", "6 settings", |record| record.settings.push(8)),
+    (3, "lamps-9", "9 lamps", |record| record.lamps = vec![20; 9]),
+    (3, "sweep-0", "no reading", |record| (record.ddls, record.luminances) = (vec![], vec![])),
+    (3, "sweep-1025", "1,025 readings", |record| (record.ddls, record.luminances) = ((0..1_025).collect(), (1_000..2_025).collect())),
+    (3, "check-1", "one patch", |record| record.check.truncate(1)),
+    (3, "check-17", "17 patches", |record| record.check.truncate(17)),
+    (3, "check-19", "19 patches", |record| record.check.push(2_600_000)),
+];
+
+/// Under 3: other items than the count says, and what is met first.
 fn counts(engine: &Engine) -> Vec<Vector> {
-    let counted =
-        |name: &str, about: &str, change: &dyn Fn(&mut Record)| Vector::refused(3, name, about, changed(full(engine), change).bytes());
-    let set = |section: usize, count: u16| {
-        let record = full(engine);
-        let mut bytes = record.bytes();
-        let place = count_places(&record)[section];
-        bytes[place..place + 2].copy_from_slice(&count.to_le_bytes());
-        bytes
-    };
+    let refused = |name: &str, about: &str, bytes: &[u8]| Vector::refused(3, name, about, bytes.to_vec());
+    let sweep = count_places(&full(engine))[2];
     let mut vectors = vec![
-        counted("settings-4", "4 settings", &|record| record.settings.truncate(4)),
-        counted("settings-6", "6 settings", &|record| record.settings.push(8)),
-        counted("lamps-9", "9 lamps", &|record| record.lamps = vec![20; 9]),
-        counted("sweep-0", "no reading", &|record| (record.ddls, record.luminances) = (vec![], vec![])),
-        Vector::refused(
-            3,
-            "sweep-1",
-            "one reading, the example of document 01",
-            changed(small(), |record| {
-                record.ddls.truncate(1);
-                record.luminances.truncate(1);
-            })
-            .bytes(),
-        ),
-        counted("sweep-1025", "1,025 readings", &|record| {
-            (record.ddls, record.luminances) = ((0..1_025).collect(), (1_000..2_025).collect())
-        }),
-        counted("check-1", "one patch", &|record| record.check.truncate(1)),
-        counted("check-17", "17 patches", &|record| record.check.truncate(17)),
-        counted("check-19", "19 patches", &|record| record.check.push(2_600_000)),
-        Vector::refused(3, "settings-swapped", "a count with its high byte first", set(0, 5 << 8)),
-        Vector::refused(3, "lamps-256", "a count of lamps whose low byte is 0", set(1, 256)),
-        Vector::refused(
-            3,
-            "and-cut",
-            "a count not permitted, and no byte after it",
-            set(2, 1)[..count_places(&full(engine))[2] + 2].to_vec(),
-        ),
+        refused("settings-swapped", "a count with its high byte first", &with_count(engine, 0, 5 << 8)),
+        refused("lamps-256", "a count of lamps whose low byte is 0", &with_count(engine, 1, 256)),
+        refused("and-cut", "a count not permitted, and no byte after it", &with_count(engine, 2, 1)[..sweep + 2]),
     ];
     for (section, name) in SECTIONS.iter().enumerate() {
-        vectors.push(Vector::refused(
-            3,
-            &format!("{name}-65535"),
-            &format!("the largest count for section '{name}'"),
-            set(section, u16::MAX),
-        ));
+        let about = format!("the largest count for section '{name}'");
+        vectors.push(refused(&format!("{name}-65535"), &about, &with_count(engine, section, u16::MAX)));
     }
     vectors
 }
@@ -94,8 +83,6 @@ fn left_over(engine: &Engine) -> Vec<Vector> {
         ),
     ]
 }
-
-type Fault = (u32, &'static str, &'static str, fn(&mut Record));
 
 /// Under 5 to 7, what a full record must not hold.
 #[rustfmt::skip]
@@ -135,13 +122,18 @@ const FAULTS: [Fault; 23] = [
     }),
 ];
 
-fn faults(engine: &Engine) -> Vec<Vector> {
-    FAULTS.iter().map(|&(number, name, about, fault)| Vector::refused(number, name, about, changed(full(engine), fault).bytes())).collect()
+/// A job with each of these faults.
+fn with_faults<'a>(record: &'a Record, faults: &'a [Fault]) -> impl Iterator<Item = Vector> + 'a {
+    faults.iter().map(move |&(number, name, about, fault)| Vector::refused(number, name, about, changed(record.clone(), fault).bytes()))
 }
 
-/// Document 01's examples of 5 to 13, but for that of 11, which is a sample.
+/// Document 01's examples of 3 and of 5 to 13, but for that of 11, which is a sample.
 #[rustfmt::skip]
-const EXAMPLES: [Fault; 8] = [
+const EXAMPLES: [Fault; 9] = [
+    (3, "sweep-1", "one reading, the example of document 01", |record| {
+        record.ddls.truncate(1);
+        record.luminances.truncate(1);
+    }),
     (5, "depth-11", "depth 11, the example of document 01", |record| record.settings[0] = 11),
     (6, "to-254", "depth 8, levels 0 and 254, the example of document 01", |record| record.ddls[1] = 254),
     (7, "900-899", "luminances 900 and 899, the example of document 01", |record| record.luminances = vec![900, 899]),
@@ -227,13 +219,12 @@ fn tables_and_checks(engine: &Engine) -> Vec<Vector> {
 }
 
 pub fn vectors(engine: &Engine) -> Vec<Vector> {
-    let examples =
-        EXAMPLES.iter().map(|&(number, name, about, fault)| Vector::refused(number, name, about, changed(small(), fault).bytes()));
     let mut vectors = cut_short(engine);
     vectors.extend(counts(engine));
     vectors.extend(left_over(engine));
-    vectors.extend(examples);
-    vectors.extend(faults(engine));
+    vectors.extend(with_faults(&small(), &EXAMPLES));
+    vectors.extend(with_faults(&full(engine), &COUNTS));
+    vectors.extend(with_faults(&full(engine), &FAULTS));
     vectors.extend(ranges(engine));
     vectors.extend(tables_and_checks(engine));
     vectors.sort_by_key(|vector| vector.name[.."refused-00".len()].to_string());

@@ -12,12 +12,13 @@ fn each_kind(engine: &Engine) -> Vec<Vector> {
     for depth in 8..=10 {
         for (meter, meter_name) in [(CONTACT, "contact"), (TELESCOPIC, "telescopic")] {
             for (class, class_name) in [(PRIMARY, "primary"), (SECONDARY, "secondary")] {
-                let lamps = if class == PRIMARY { vec![12, 5] } else { vec![60, 35] };
+                let (lamps, lines) =
+                    if class == PRIMARY { (vec![12, 5], ["room low", "check fail"]) } else { (vec![60, 35], ["room high", "check pass"]) };
                 let settings = vec![depth, meter, class, 60, 100];
                 let record = checked_off_by(Record { settings, lamps, ..display(depth, 18, 8_000, 3_000_000) }, engine, 40);
                 let name = format!("{depth}-{meter_name}-{class_name}");
                 let about = format!("depth {depth}, {meter_name} meter, {class_name} class, patches 4 % off in turn");
-                vectors.push(Vector::sound(&name, &about, &record, "range "));
+                vectors.push(Vector::sound(&name, &about, &record, &lines));
             }
         }
     }
@@ -36,34 +37,44 @@ fn ranged(engine: &Engine, jlo: u64, jhi: u64) -> Record {
 
 /// The first and the last of what is permitted. The indices of 500, 547 and 12,400 are those of document 01's marked examples.
 fn limits(engine: &Engine) -> Vec<Vector> {
-    let vector = |name, about, record, begins| Vector::sound(name, about, &record, begins);
+    let vector = |name, about, record, range, room| Vector::sound(name, about, &record, &[range, room, "check none"]);
     let brightest = engine.gsdf.brightest();
     vec![
-        vector("whole-table", "the first and the last luminance of Table B-1", ranged(engine, 100, 102_300), "range 102 102300 102198\n"),
-        vector("range-10000", "the narrowest range", ranged(engine, 20_000, 30_000), "range 20000 30000 10000\n"),
+        vector(
+            "whole-table",
+            "the first and the last luminance of Table B-1",
+            ranged(engine, 100, 102_300),
+            "range 102 102300 102198",
+            "room low",
+        ),
+        vector("range-10000", "the narrowest range", ranged(engine, 20_000, 30_000), "range 20000 30000 10000", "room low"),
         vector(
             "room-at-limit",
             "four times the room light is the first reading",
             lit(TELESCOPIC, 50, 62, [12_400, brightest]),
-            "range 8072 102300 94228\nroom low\n",
+            "range 8072 102300 94228",
+            "room low",
         ),
         vector(
             "room-past-limit",
             "four times the room light is one unit more than the first reading",
             lit(TELESCOPIC, 137, 1, [547, brightest]),
-            "range 202 102300 102098\nroom high\n",
+            "range 202 102300 102098",
+            "room high",
         ),
         vector(
             "room-light-lifts",
             "a black of 400, which the room light lifts into Table B-1",
             lit(CONTACT, 100, 1, [400, brightest - 100]),
-            "range 102 102300 102198\nroom low\n",
+            "range 102 102300 102198",
+            "room low",
         ),
         vector(
             "room-light-beside",
             "a telescopic meter, which gets no room light",
             lit(TELESCOPIC, 100, 1, [500, brightest]),
-            "range 102 102300 102198\nroom low\n",
+            "range 102 102300 102198",
+            "room low",
         ),
     ]
 }
@@ -87,21 +98,21 @@ fn shapes(engine: &Engine) -> Vec<Vector> {
     let unlit = changed(small(), |record| record.lamps = vec![0; 8]);
     let bright = Record { lamps: vec![2_000; 8], ..lit(CONTACT, 0, 1_000, [10_000, engine.gsdf.brightest() - 16_000_000]) };
     vec![
-        Vector::sound("smallest", "the fewest bytes, 30", &small(), "range "),
-        Vector::sound("full", "items in every section", &full(engine), "range "),
-        Vector::sound("longest", "the most bytes, 6,250", &longest(engine), "range "),
+        Vector::sound("smallest", "the fewest bytes, 30", &small(), &["room low", "check none"]),
+        Vector::sound("full", "items in every section", &full(engine), &["room high", "check pass"]),
+        Vector::sound("longest", "the most bytes, 6,250", &longest(engine), &["room high", "check pass"]),
         Vector::sound(
             "exact",
             "a level at each target, no error allowed",
             &exact,
-            "range 20000 80000 60000\nroom low\neven 0\ncheck none\n0 0 0\n1 1 1\n2 2 2\n",
+            &["range 20000 80000 60000", "room low", "even 0", "check none", "0 0 0", "1 1 1", "254 254 254", "255 255 255"],
         ),
-        Vector::sound("one-step", "two luminances alone: a large worst step", &steps, "range "),
-        Vector::sound("plateaus", "9 bits, every level read, equal ones in the shadows", &plateaus, "range "),
-        Vector::sound("falling-patches", "two patches that fall", &falling, "range "),
-        Vector::sound("as-expected", "patches as they are expected", &checked(small(), engine), "range "),
-        Vector::sound("lamps-of-0", "8 lamps without light", &unlit, "range "),
-        Vector::sound("brightest-room", "8 lamps of 2,000 lux, the largest reflectance", &bright, "range "),
+        Vector::sound("one-step", "two luminances alone: a large worst step", &steps, &["room low", "check none"]),
+        Vector::sound("plateaus", "9 bits, every level read, equal ones in the shadows", &plateaus, &["check none"]),
+        Vector::sound("falling-patches", "two patches that fall", &falling, &["room high", "check fail"]),
+        Vector::sound("as-expected", "patches as they are expected", &checked(small(), engine), &["room low", "check pass"]),
+        Vector::sound("lamps-of-0", "8 lamps without light", &unlit, &["room low", "check none"]),
+        Vector::sound("brightest-room", "8 lamps of 2,000 lux, the largest reflectance", &bright, &["room high", "check none"]),
     ]
 }
 
