@@ -2,18 +2,18 @@
 //!
 //! With an error of 1,000 the lowest level is allowed at every target, so that the search begins at a worst step of 1,000; and as the curve goes
 //! through all targets, it ends at 0. So each number of targets takes ten passes over its rows, and none ends early.
-use compare::even::{self, EvenValues, Lent};
+use compare::even::{EvenValues, Lent};
 use reference::gsdf::Gsdf;
 use reference::target::Range;
 
-use crate::{even_in_c, Side};
+use crate::side::Side;
 
 /// The levels of the curve, and the most targets.
 pub const MOST: usize = 1_024;
 const TOLERANCE: u16 = 1_000;
 const NUMBERS: [usize; 4] = [128, 256, 512, MOST];
 
-/// What both sides should give.
+/// What each side should give.
 pub const RESULT: EvenValues = EvenValues { made: 1, worst_step: 0 };
 
 pub struct Growth {
@@ -37,10 +37,6 @@ impl Growth {
 
     #[inline(always)]
     pub fn fill(&self, side: Side, place: u32, lent: Lent) -> EvenValues {
-        let targets = &self.targets[place as usize];
-        match side {
-            Side::Engine => even::fill(&self.curve, targets, TOLERANCE, lent),
-            Side::Other => even_in_c::fill(&self.curve, targets, TOLERANCE, lent),
-        }
+        side.even_fill(&self.curve, &self.targets[place as usize], TOLERANCE, lent)
     }
 }

@@ -3,9 +3,10 @@ use reference::gsdf::Gsdf;
 use reference::record::Record;
 use reference::target::Range;
 
-use crate::Random;
+use crate::random::Random;
 
-/// Records of depth 10 with 8 lamps and a check: two readings, 64 and 1,024. Then the jobs, then those with a check, then those for even tables.
+/// Records of depth 10 with 8 lamps and a check: two readings, 64 and 1,024. Then the jobs, then those with a check, then those for even tables,
+/// then those that are refused.
 pub fn records() -> Vec<Vec<u8>> {
     let record = |readings: u64| Record {
         settings: vec![10, 0, 1, 60, 100],
@@ -14,7 +15,8 @@ pub fn records() -> Vec<Vec<u8>> {
         luminances: (0..readings).map(|i| 1_000 + 3_000 * i).collect(),
         check: (0..18).map(|i| 10_000 + 1_000 * i).collect(),
     };
-    [2, 64, 1024].map(record).iter().chain(&jobs()).chain(&checks()).chain(&evens()).map(Record::bytes).collect()
+    let sound = [2, 64, 1024].map(record).iter().chain(&jobs()).chain(&checks()).chain(&evens()).map(Record::bytes).collect();
+    [sound, refused()].concat()
 }
 
 /// A sound job of a primary display; the readings rise with the square of the level.
@@ -55,7 +57,7 @@ fn evens() -> Vec<Record> {
     let power = |ddl: u64, last: u64| 5_000 + 3_500_000 * ddl * ddl / (last * last);
     let s_curve = |ddl: u64, last: u64| 8_000 + 4_000_000 * ddl * ddl * (3 * last - 2 * ddl) / (last * last * last);
     let range = Range { jlo: 8_000, jhi: 80_000 };
-    let mut random = Random(0x9e37_79b9_7f4a_7c15);
+    let mut random = Random::new();
     let mut scattered: Vec<u64> = (0..1_024).map(|_| gsdf.luminance(range.jlo + random.below(range.width() + 1))).collect();
     scattered.sort_unstable();
     let targets = range.targets(&gsdf, 255);
@@ -69,5 +71,28 @@ fn evens() -> Vec<Record> {
         display(10, 1_024, 1_000, |ddl, _| scattered[ddl as usize]),
         display(10, 1_024, 0, power),
         display(8, 256, 0, |ddl, last| targets[ddl as usize] + ddl / last),
+    ]
+}
+
+/// One record for each refusal from 2 to 10, of depth 10 and 1,024 readings before it was spoilt; then one each for 12 and 13.
+fn refused() -> Vec<Vec<u8>> {
+    let spoilt = |spoil: &dyn Fn(&mut Record)| {
+        let mut record = job(10, &[10, 20], 1024, &[5_000; 18]);
+        spoil(&mut record);
+        record.bytes()
+    };
+    let sound = spoilt(&|_| ());
+    vec![
+        sound[..sound.len() - 1].to_vec(),
+        spoilt(&|record| record.check.truncate(17)),
+        [&sound[..], &[0]].concat(),
+        spoilt(&|record| record.settings[4] = 1_001),
+        spoilt(&|record| record.ddls[1023] = 1_022),
+        spoilt(&|record| record.luminances[1023] = 0),
+        spoilt(&|record| (record.settings[1], record.luminances[0]) = (1, 499)),
+        spoilt(&|record| record.luminances[1023] = 39_934_041),
+        spoilt(&|record| record.luminances = (5_000..6_024).collect()),
+        spoilt(&|record| record.check[17] = 39_934_040),
+        spoilt(&|_| ()),
     ]
 }

@@ -1,4 +1,4 @@
-//! The methods of crate `record`, written in Rust.
+//! The job record: its lists in arrays, and tests 2 to 7.
 use compare::record::RecordValues;
 
 type Counts = [usize; 4];

@@ -1,6 +1,8 @@
-//! The methods of crate `gsdf`, written in Rust; the table is lent.
+//! G and J, with Table B-1 lent.
 
 pub type TableB1 = [u32; 1023];
+
+pub static TABLE_B1: TableB1 = include!(concat!(env!("OUT_DIR"), "/table_b1.rs"));
 
 fn jnd_luminance(table: &TableB1, j: u32) -> u32 {
     table[(j - 1) as usize]
