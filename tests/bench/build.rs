@@ -1,10 +1,12 @@
-//! Writes Table B-1 for both languages from its data file, and compiles the methods that are written in C.
+//! Writes Table B-1 for both languages from its data file, and compiles the methods and the program that are written in C.
 use std::fs;
 use std::process::Command;
 
 const TABLE_B1: &str = "../../data/table-b1.tsv";
 const HEADERS: [&str; 2] = ["src/in_c/engine.h", "../../include/yepidlaw.h"];
 const METHODS: [&str; 5] = ["record", "curve", "nearest", "even", "contrast"];
+const PROGRAM: &str = "src/in_c/calibrate.c";
+const FLAGS: [&str; 7] = ["-std=c99", "-O3", "-Wall", "-Wextra", "-Werror", "-I../../include", "-Isrc/in_c"];
 
 /// The luminances in units of 0.0001 cd/m², in the order of their JNDs, separated by commas.
 fn table_b1() -> String {
@@ -20,11 +22,6 @@ fn run(command: &mut Command) {
     assert!(status.success(), "{command:?}: {status}");
 }
 
-fn compile(source: &str, object: &str) {
-    let warnings = ["-Wall", "-Wextra", "-Werror"];
-    run(Command::new("gcc").args(["-std=c99", "-O3", "-I../../include", "-Isrc/in_c", "-c", source, "-o", object]).args(warnings));
-}
-
 fn main() {
     let out = std::env::var("OUT_DIR").expect("cargo sets it");
     let entries = table_b1();
@@ -35,13 +32,17 @@ fn main() {
     let methods = METHODS.map(|method| format!("src/in_c/{method}.c"));
     let mut objects = vec![];
     for (source, name) in methods.iter().zip(METHODS).chain([(&table, "table_b1")]) {
-        objects.push(format!("{out}/{name}.o"));
-        compile(source, &objects[objects.len() - 1]);
+        let object = format!("{out}/{name}.o");
+        run(Command::new("gcc").args(FLAGS).args(["-c", source, "-o", &object]));
+        objects.push(object);
     }
-    run(Command::new("ar").args(["rcs", &format!("{out}/libengine_in_c.a")]).args(&objects));
+    let (library, program) = (format!("{out}/libengine_in_c.a"), format!("{out}/calibrate_in_c"));
+    run(Command::new("ar").args(["rcs", &library]).args(&objects));
+    run(Command::new("gcc").args(FLAGS).args([PROGRAM, &library, "-o", &program]));
+    println!("cargo:rustc-env=CALIBRATE_IN_C={program}");
     println!("cargo:rustc-link-search=native={out}");
     println!("cargo:rustc-link-lib=static=engine_in_c");
-    for source in methods.iter().map(String::as_str).chain(HEADERS).chain([TABLE_B1]) {
+    for source in methods.iter().map(String::as_str).chain(HEADERS).chain([PROGRAM, TABLE_B1]) {
         println!("cargo:rerun-if-changed={source}");
     }
 }

@@ -14,6 +14,8 @@ pub enum Function {
     Even(&'static [u32]),
     Check(&'static [Check]),
     Growth,
+    /// A whole process.
+    Program(&'static [u32]),
 }
 
 /// The inputs of `Function::Growth` are places in the list of its targets; those of the functions that take a record, in the list of records.
@@ -50,6 +52,7 @@ pub fn cases() -> Vec<Case> {
     rising.sort_unstable();
     let case = |name, function, inputs| Case { name, function, inputs, passes: 60 };
     let long = |name, function, inputs| Case { name, function, inputs, passes: 20 };
+    let process = |name, function, inputs| Case { name, function, inputs, passes: 500 };
     vec![
         case("luminance-scattered", Function::Luminance, indices),
         case("index-scattered", Function::Index, luminances),
@@ -72,5 +75,8 @@ pub fn cases() -> Vec<Case> {
         long("growth-256", Function::Growth, vec![1; 2]),
         long("growth-512", Function::Growth, vec![2]),
         long("growth-1024", Function::Growth, vec![3]),
+        process("program-18", Function::Program(&[0]), vec![9]),
+        process("program-1024", Function::Program(&[0]), vec![6]),
+        process("program-refused", Function::Program(&[2]), vec![29]),
     ]
 }

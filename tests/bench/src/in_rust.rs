@@ -5,3 +5,4 @@ pub mod gsdf;
 mod job;
 pub mod nearest;
 pub mod record;
+pub mod report;

@@ -4,6 +4,7 @@
 //!   bench times             best time of a pass over the inputs, for each case and side
 //!   bench list              the cases, with the number of inputs and the number of passes timed
 //!   bench pass CASE SIDE    one pass, for counting instructions
+//!   bench program CASE SIDE the program and the record's file of a case that runs programs
 
 use std::time::Instant;
 
@@ -12,16 +13,18 @@ use compare::gsdf::{raw, Table};
 use compare::record::{self, RecordValues};
 use compare::yepidlaw::{Check, Nearest};
 
+use bench::in_rust;
+
 mod cases;
 mod growth;
-mod in_c;
-mod in_rust;
+mod programs;
 mod random;
 mod records;
 mod side;
 
 use cases::{cases, Case, Function};
 use growth::Growth;
+use programs::Inputs;
 use side::Side;
 
 /// What the functions work on.
@@ -29,6 +32,15 @@ struct Material {
     table: Table,
     records: Vec<Vec<u8>>,
     growth: Growth,
+    inputs: Inputs,
+}
+
+impl Material {
+    fn new() -> Material {
+        let records = records::records();
+        let inputs = Inputs::new(&records);
+        Material { table: Table::of_engine(), records, growth: Growth::new(), inputs }
+    }
 }
 
 /// What the functions are lent.
@@ -108,6 +120,7 @@ fn each(case: &Case, side: Side, material: &Material, lent: &mut Lent, mut take:
             let result = material.growth.fill(side, place, lent.for_growth());
             take(result.made + result.worst_step as u32 + digest_of_entries(&lent.table));
         }),
+        (Function::Program(_), side) => inputs.for_each(|&place| take(material.inputs.run(side, place))),
     }
 }
 
@@ -153,6 +166,14 @@ fn same_slices(case: &Case, other: Side, i: usize, material: &Material) -> bool 
             let answer = same(other, |side, lent| (material.growth.fill(side, place, lent.for_growth()), lent.table[..values].to_vec()));
             answer.map_or(false, |(result, _)| result == growth::RESULT)
         }
+        Function::Program(refusals) => {
+            let expected = match refusals[i % refusals.len()] {
+                0 => "range ".to_string(),
+                number => format!("refused {number}\n"),
+            };
+            let reports = same(other, |side, _| material.inputs.report(side, place));
+            reports.flatten().map_or(false, |report| report.starts_with(expected.as_bytes()))
+        }
         Function::Luminance | Function::Index | Function::Record => true,
     }
 }
@@ -174,17 +195,25 @@ fn check(cases: &[Case], material: &Material) -> bool {
         all
     };
     let (mut passed, mut failed) = (0, 0);
+    let mut count = |name: &str, other: Side, same: bool| {
+        if same {
+            passed += 1;
+        } else {
+            failed += 1;
+            println!("FAILED: {name}: the engine and the side in {} differ", other.name());
+        }
+    };
     for case in cases {
         let of_engine = results(case, Side::Engine);
         for &other in &case.sides()[1..] {
             let same_slices = || (0..case.inputs.len()).all(|i| same_slices(case, other, i, material));
-            if of_engine == results(case, other) && same_slices() {
-                passed += 1;
-            } else {
-                failed += 1;
-                println!("FAILED: {}: the engine and the side in {} differ", case.name, other.name());
-            }
+            count(case.name, other, of_engine == results(case, other) && same_slices());
         }
+    }
+    for other in [Side::Rust, Side::C] {
+        let report = |side, place| material.inputs.report(side, place);
+        let same = |place| report(Side::Engine, place).map_or(false, |engine| Some(engine) == report(other, place));
+        count("reports of all records", other, (0..material.records.len() as u32).all(same));
     }
     println!("{passed} passed, {failed} failed");
     failed == 0
@@ -218,10 +247,12 @@ fn times(cases: &[Case], material: &Material) {
 }
 
 fn main() {
-    let material = Material { table: Table::of_engine(), records: records::records(), growth: Growth::new() };
+    let material = Material::new();
     let cases = cases();
     let words: Vec<String> = std::env::args().skip(1).collect();
     let words: Vec<&str> = words.iter().map(String::as_str).collect();
+    let named = |name: &str| cases.iter().find(|case| case.name == name).expect("a case's name");
+    let side_of = |case: &Case, name: &str| *case.sides().iter().find(|side| side.name() == name).expect("a side of the case");
     match words[..] {
         ["check"] => {
             if !check(&cases, &material) {
@@ -231,12 +262,15 @@ fn main() {
         ["times"] => times(&cases, &material),
         ["list"] => cases.iter().for_each(|case| println!("{} {} {}", case.name, case.inputs.len(), case.passes)),
         ["pass", name, side] => {
-            let case = cases.iter().find(|case| case.name == name).expect("a case's name");
-            let side = *case.sides().iter().find(|known| known.name() == side).expect("a side of the case");
-            println!("{}", measured_pass(case, side, &material, &mut Lent::new(0)));
+            let case = named(name);
+            println!("{}", measured_pass(case, side_of(case, side), &material, &mut Lent::new(0)));
+        }
+        ["program", name, side] => {
+            let case = named(name);
+            println!("{}\n{}", programs::path(side_of(case, side)).display(), material.inputs.file(case.inputs[0]).display());
         }
         _ => {
-            eprintln!("usage: bench check | bench times | bench list | bench pass CASE SIDE");
+            eprintln!("usage: bench check | bench times | bench list | bench pass CASE SIDE | bench program CASE SIDE");
             std::process::exit(2);
         }
     }

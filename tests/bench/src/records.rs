@@ -6,7 +6,7 @@ use reference::target::Range;
 use crate::random::Random;
 
 /// Records of depth 10 with 8 lamps and a check: two readings, 64 and 1,024. Then the jobs, then those with a check, then those for even tables,
-/// then those that are refused.
+/// then those that are refused, the last of them without a byte.
 pub fn records() -> Vec<Vec<u8>> {
     let record = |readings: u64| Record {
         settings: vec![10, 0, 1, 60, 100],
@@ -74,7 +74,7 @@ fn evens() -> Vec<Record> {
     ]
 }
 
-/// One record for each refusal from 2 to 10, of depth 10 and 1,024 readings before it was spoilt; then one each for 12 and 13.
+/// One record for each refusal from 2 to 10, of depth 10 and 1,024 readings before it was spoilt; then one each for 12 and 13; then no bytes.
 fn refused() -> Vec<Vec<u8>> {
     let spoilt = |spoil: &dyn Fn(&mut Record)| {
         let mut record = job(10, &[10, 20], 1024, &[5_000; 18]);
@@ -94,5 +94,6 @@ fn refused() -> Vec<Vec<u8>> {
         spoilt(&|record| record.luminances = (5_000..6_024).collect()),
         spoilt(&|record| record.check[17] = 39_934_040),
         spoilt(&|_| ()),
+        vec![],
     ]
 }

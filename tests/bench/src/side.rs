@@ -2,7 +2,7 @@
 use compare::even::{self, EvenValues};
 use compare::yepidlaw::{self, Check, Even, Nearest};
 
-use crate::{in_c, in_rust};
+use bench::{in_c, in_rust};
 
 #[derive(Clone, Copy, PartialEq)]
 pub enum Side {
