@@ -63,11 +63,15 @@ pub fn cases() -> Vec<Case> {
         case("nearest-2", Function::Nearest(&[0]), vec![3; 1_000]),
         case("nearest-64", Function::Nearest(&[0]), vec![4; 1_000]),
         case("nearest-1024", Function::Nearest(&[0]), vec![5; 1_000]),
-        case("nearest-refused", Function::Nearest(&[2, 3, 4, 5, 6, 7, 8, 9, 10]), (18..27).collect::<Vec<_>>().repeat(100)),
+        case("nearest-refused", Function::Nearest(&[2, 3, 4, 5, 6, 7, 8, 9, 10]), (19..28).collect::<Vec<_>>().repeat(100)),
         case("check-1024", Function::Check(&[PASS]), vec![6; 1_000]),
         case("check-52", Function::Check(&[PASS]), vec![7; 1_000]),
         case("check-failing", Function::Check(&[FAIL]), vec![8; 1_000]),
-        case("check-refused", Function::Check(&[Check { refusal: 12, verdict: 0 }, Check { refusal: 13, verdict: 0 }]), [27, 28].repeat(500)),
+        case(
+            "check-refused",
+            Function::Check(&[Check { refusal: 12, verdict: 0 }, Check { refusal: 13, verdict: 0 }]),
+            [28, 29].repeat(500),
+        ),
         long("even-common", Function::Even(&[0]), (9..15).collect()),
         long("even-worst", Function::Even(&[0]), vec![15]),
         case("even-refused", Function::Even(&[11]), [16, 17].repeat(100)),
@@ -77,6 +81,6 @@ pub fn cases() -> Vec<Case> {
         long("growth-1024", Function::Growth, vec![3]),
         process("program-18", Function::Program(&[0]), vec![9]),
         process("program-1024", Function::Program(&[0]), vec![6]),
-        process("program-refused", Function::Program(&[2]), vec![29]),
+        process("program-refused", Function::Program(&[2]), vec![30]),
     ]
 }

@@ -51,7 +51,8 @@ fn display(depth: u64, readings: u64, tolerance: u64, reading: impl Fn(u64, u64)
     Record { settings: vec![depth, 0, 1, 60, tolerance], lamps: vec![], ddls, luminances, check: vec![] }
 }
 
-/// Six common displays; one whose levels are scattered over its range and allowed up to twice a target; two without a table, by their second P-value and by their last.
+/// Six common displays; one whose levels are scattered over its range and allowed up to twice a target; two without a table, by their second P-value and by their last;
+/// one whose levels are its targets, no error allowed.
 fn evens() -> Vec<Record> {
     let gsdf = Gsdf::from_data_file();
     let power = |ddl: u64, last: u64| 5_000 + 3_500_000 * ddl * ddl / (last * last);
@@ -71,6 +72,7 @@ fn evens() -> Vec<Record> {
         display(10, 1_024, 1_000, |ddl, _| scattered[ddl as usize]),
         display(10, 1_024, 0, power),
         display(8, 256, 0, |ddl, last| targets[ddl as usize] + ddl / last),
+        display(8, 256, 0, |ddl, _| targets[ddl as usize]),
     ]
 }
 
