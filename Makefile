@@ -1,5 +1,5 @@
 # make test     proves everything and runs all tests
-# make bench    measures, and writes docs/BENCHMARK.md
+# make bench    measures the engine and the program beside Rust and C, and writes docs/BENCHMARK.md
 # make memory   runs the program on every vector under Valgrind's memcheck
 # make job      builds tools/job, as tests/target/release/job
 # make vectors  writes the records and reports of tests/vectors, and the reports of the samples
