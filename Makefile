@@ -1,10 +1,11 @@
 # make test     proves everything and runs all tests
 # make bench    measures the engine and the program beside Rust and C, and writes docs/BENCHMARK.md
+# make fuzz     runs the library on records that coverage leads to, for up to an hour, and writes a section of docs/BENCHMARK.md
 # make memory   runs the program on every vector under Valgrind's memcheck
 # make job      builds tools/job, as tests/target/release/job
 # make vectors  writes the records and reports of tests/vectors, and the reports of the samples
 # make table    writes the sources of Table B-1 from data/table-b1.tsv
-.PHONY: test bench memory job vectors table
+.PHONY: test bench fuzz memory job vectors table
 
 cargo = cargo build --release --offline --locked --manifest-path tests/Cargo.toml --target-dir tests/target
 
@@ -13,6 +14,9 @@ test:
 
 bench:
 	tools/bench
+
+fuzz:
+	tools/fuzz
 
 memory:
 	tests/memory

@@ -3,16 +3,15 @@
 //!   compare                   everything, with the jobs of the gate
 //!   compare COUNT [SEED]      so many drawn jobs alone; for the even table, which takes longer, a quarter as many
 
+use compare::{jobs, random};
 use reference::engine::Engine;
 
 mod check_tests;
 mod comparison;
 mod even_tests;
 mod gsdf_tests;
-mod jobs;
 mod lent;
 mod nearest_tests;
-mod random;
 mod record_tests;
 mod tally;
 

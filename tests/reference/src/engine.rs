@@ -25,6 +25,26 @@ pub struct Sound {
     pub targets: Vec<u64>,
 }
 
+impl Sound {
+    pub fn nearest(&self) -> nearest::Table {
+        nearest::table(&self.curve, &self.targets)
+    }
+
+    /// The even table, or 11.
+    pub fn even(&self) -> Result<even::Table, u32> {
+        even::table(&self.curve, &self.targets, self.record.tolerance()).ok_or(11)
+    }
+
+    /// The contrast check, or 12 or 13. A job with 0 check items has none.
+    pub fn check(&self, gsdf: &Gsdf) -> Result<Option<Contrast>, u32> {
+        if self.record.check.is_empty() {
+            return Ok(None);
+        }
+        let measured = self.record.check.iter().map(|reading| reading + self.added).collect();
+        Contrast::of(gsdf, measured, self.record.class()).map(Some)
+    }
+}
+
 pub struct Engine {
     pub gsdf: Gsdf,
 }
@@ -60,7 +80,7 @@ impl Engine {
             return Err(1);
         }
         let job = self.sound(bytes)?;
-        let table = nearest::table(&job.curve, &job.targets);
+        let table = job.nearest();
         Ok((job, table))
     }
 
@@ -70,21 +90,17 @@ impl Engine {
             return Err(1);
         }
         let job = self.sound(bytes)?;
-        let table = even::table(&job.curve, &job.targets, job.record.tolerance()).ok_or(11u32)?;
+        let table = job.even()?;
         Ok((job, table))
     }
 
-    /// The job and its contrast check, for a lent slice of so many places, or the first of 1 to 10, 12 and 13 that it meets. A job with 0 check items has no check.
+    /// The job and its contrast check, for a lent slice of so many places, or the first of 1 to 10, 12 and 13 that it meets.
     pub fn check(&self, bytes: &[u8], places: usize) -> Result<(Sound, Option<Contrast>), u32> {
         if places < PAIRS {
             return Err(1);
         }
         let job = self.sound(bytes)?;
-        if job.record.check.is_empty() {
-            return Ok((job, None));
-        }
-        let measured = job.record.check.iter().map(|reading| reading + job.added).collect();
-        let contrast = Contrast::of(&self.gsdf, measured, job.record.class())?;
-        Ok((job, Some(contrast)))
+        let contrast = job.check(&self.gsdf)?;
+        Ok((job, contrast))
     }
 }
