@@ -14,6 +14,7 @@ mod lent;
 mod nearest_tests;
 mod record_tests;
 mod tally;
+mod threads;
 
 fn everything(reference: &Engine) -> Vec<bool> {
     let mut results = gsdf_tests::results(&reference.gsdf);
@@ -21,6 +22,7 @@ fn everything(reference: &Engine) -> Vec<bool> {
     results.extend(nearest_tests::results(reference));
     results.extend(even_tests::results(reference));
     results.extend(check_tests::results(reference));
+    results.extend(threads::results(&reference.gsdf));
     results
 }
 
