@@ -53,10 +53,10 @@ impl Corpus {
         }
     }
 
-    /// Mostly a sound one, the faster of two.
+    /// Mostly a sound one, the fastest of three.
     pub fn choose(&self, random: &mut Random) -> &[u8] {
         let kept = if random.below(8) == 0 { &self.refused } else { &self.sound };
-        let [one, other] = [0; 2].map(|_| &kept[random.place(kept.len())]);
-        &(if one.took < other.took { one } else { other }).bytes
+        let drawn = (0..3).map(|_| &kept[random.place(kept.len())]);
+        &drawn.min_by_key(|kept| kept.took).expect("some are drawn").bytes
     }
 }

@@ -57,17 +57,17 @@ impl Run {
         }
     }
 
-    /// A drawn record, or one made from those that are kept.
+    /// A drawn record at first and now and then, else one made from those that are kept.
     fn record(&mut self) -> Vec<u8> {
-        let gsdf = &self.oracle.reference.gsdf;
-        let mut bytes = match self.random.below(16) {
-            _ if SEEDS <= self.figures.executions && self.random.below(16) != 0 => {
-                let other = self.corpus.choose(&mut self.random).to_vec();
-                let chosen = self.corpus.choose(&mut self.random).to_vec();
-                mutation::mutated(&mut self.random, gsdf, &chosen, &other)
-            }
-            0..=7 => jobs::draw(&mut self.random, gsdf).bytes,
-            _ => jobs::draw_even(&mut self.random, gsdf).bytes,
+        let (random, gsdf) = (&mut self.random, &self.oracle.reference.gsdf);
+        let mut bytes = if SEEDS <= self.figures.executions && random.below(16) != 0 {
+            let chosen = self.corpus.choose(random);
+            let other = self.corpus.choose(random);
+            mutation::mutated(random, gsdf, chosen, other)
+        } else if random.below(2) == 0 {
+            jobs::draw(random, gsdf).bytes
+        } else {
+            jobs::draw_even(random, gsdf).bytes
         };
         bytes.truncate(LONGEST_RECORD);
         bytes

@@ -6,8 +6,6 @@ use reference::gsdf::{Gsdf, FIRST_INDEX, LAST_INDEX};
 use reference::record::{self, Record};
 use reference::target::Range;
 
-use crate::oracle::LONGEST_RECORD;
-
 const LEAST_RANGE: u64 = 10_000;
 const LARGEST_READING: u64 = u32::MAX as u64;
 const PATCHES: usize = 18;
@@ -348,6 +346,5 @@ pub fn mutated(random: &mut Random, gsdf: &Gsdf, bytes: &[u8], other: &[u8]) -> 
         (Some(record), _) if random.below(3) == 0 => mutate_count(random, &mut changed, record),
         _ => (0..steps).for_each(|_| mutate_bytes(random, &mut changed, other)),
     }
-    changed.truncate(LONGEST_RECORD);
     changed
 }

@@ -75,9 +75,9 @@ pub struct Coverage {
 }
 
 impl Coverage {
-    /// Of blocks in rising order; none where the list is empty.
+    /// Of blocks in rising order.
     pub fn new(blocks: &[*mut u8]) -> Coverage {
-        assert!(blocks.is_empty() || unsafe { raw::watch(blocks.as_ptr(), blocks.len()) } != 0, "the blocks cannot be watched");
+        assert!(unsafe { raw::watch(blocks.as_ptr(), blocks.len()) } != 0, "the blocks cannot be watched");
         let coverage = Coverage { seen: vec![false; blocks.len()] };
         coverage.arm_all();
         coverage
