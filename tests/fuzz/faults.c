@@ -78,8 +78,9 @@ struct yepidlaw_nearest yepidlaw_nearest(const uint8_t *record, size_t n, uint16
 struct yepidlaw_even yepidlaw_even(const uint8_t *record, size_t n, uint16_t *table, size_t m, uint32_t *work, size_t k) {
     record = given(record, n);
     /* Fault 7: the allowed error is one part too small, where a table keeps within that. */
-    if (FAULT == 7 && TOLERANCE + 2 <= n && n <= LONGEST && u16_at(record + TOLERANCE) != 0) {
-        const struct yepidlaw_even smaller = right_yepidlaw_even(changed(record, n, TOLERANCE, u16_at(record + TOLERANCE) - 1), n, table, m, work, k);
+    const uint32_t tolerance = TOLERANCE + 2 <= n && n <= LONGEST ? u16_at(record + TOLERANCE) : 0;
+    if (FAULT == 7 && 0 < tolerance && tolerance <= 1000) {
+        const struct yepidlaw_even smaller = right_yepidlaw_even(changed(record, n, TOLERANCE, tolerance - 1), n, table, m, work, k);
         if (smaller.refusal == 0) {
             return smaller;
         }

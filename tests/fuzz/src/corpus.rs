@@ -1,6 +1,5 @@
 //! The records that are kept, and by what.
 use std::collections::HashSet;
-use std::time::Duration;
 
 use compare::random::Random;
 
@@ -9,7 +8,7 @@ const MOST: usize = 10_000;
 
 struct Kept {
     bytes: Vec<u8>,
-    took: Duration,
+    work: u64,
 }
 
 #[derive(Default)]
@@ -44,19 +43,19 @@ impl Corpus {
         self.block_sets.insert(met)
     }
 
-    pub fn keep(&mut self, random: &mut Random, bytes: Vec<u8>, is_sound: bool, took: Duration) {
+    pub fn keep(&mut self, random: &mut Random, bytes: Vec<u8>, is_sound: bool, work: u64) {
         let kept = if is_sound { &mut self.sound } else { &mut self.refused };
         if kept.len() < MOST {
-            kept.push(Kept { bytes, took });
+            kept.push(Kept { bytes, work });
         } else {
-            kept[random.place(MOST)] = Kept { bytes, took };
+            kept[random.place(MOST)] = Kept { bytes, work };
         }
     }
 
-    /// Mostly a sound one, the fastest of three.
+    /// Mostly a sound one, that of three with the least work.
     pub fn choose(&self, random: &mut Random) -> &[u8] {
         let kept = if random.below(8) == 0 { &self.refused } else { &self.sound };
         let drawn = (0..3).map(|_| &kept[random.place(kept.len())]);
-        &drawn.min_by_key(|kept| kept.took).expect("some are drawn").bytes
+        &drawn.min_by_key(|kept| kept.work).expect("some are drawn").bytes
     }
 }

@@ -78,13 +78,11 @@ impl Run {
         if watched {
             self.coverage.arm_all();
         }
-        let begun = Instant::now();
         let random = &mut self.random;
         let outcome = self.oracle.run(&bytes, lengths, |steps| random.below(steps) < STEPS)?;
-        let took = begun.elapsed();
         self.figures.add(&outcome);
         if self.is_new(&bytes, &outcome, watched) {
-            self.corpus.keep(&mut self.random, bytes, outcome.made.is_some(), took);
+            self.corpus.keep(&mut self.random, bytes, outcome.made.is_some(), outcome.work());
         }
         Ok(())
     }

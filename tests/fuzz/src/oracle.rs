@@ -27,7 +27,9 @@ pub struct Made {
 pub struct EvenMade {
     pub worst_step: u64,
     pub entries: Vec<u64>,
-    /// Whether the reference made the table too.
+    /// How many the reference takes to make it.
+    pub steps: u64,
+    /// Whether it made the table too.
     pub judged: bool,
 }
 
@@ -37,6 +39,14 @@ pub struct Outcome {
     pub refusals: [u32; 3],
     pub verdict: u32,
     pub made: Option<Made>,
+}
+
+impl Outcome {
+    /// A measure of the work that such a record makes, the same in every run.
+    pub fn work(&self) -> u64 {
+        let of_even = |made: &Made| made.even.as_ref().map_or(0, |even| even.steps);
+        self.made.as_ref().map_or(0, |made| 256 * made.job.curve.len() as u64 + of_even(made))
+    }
 }
 
 pub struct Oracle {
@@ -144,7 +154,7 @@ impl Oracle {
                     (Even { refusal: 11, worst_step: 0 }, None)
                 } else {
                     let steps = allowed.iter().sum::<u64>() * job.curve.len() as u64;
-                    let table = self.even_table(job, got, judges(steps))?;
+                    let table = self.even_table(job, got, steps, judges(steps))?;
                     (Even { refusal: 0, worst_step: table.worst_step }, Some(table))
                 }
             }
@@ -157,15 +167,15 @@ impl Oracle {
     }
 
     /// The reference's table; or the library's, once it keeps to what can be told without another.
-    fn even_table(&mut self, job: &Sound, got: Even, judged: bool) -> Result<EvenMade, String> {
+    fn even_table(&mut self, job: &Sound, got: Even, steps: u64, judged: bool) -> Result<EvenMade, String> {
         if judged {
             let table = job.even().expect("each P-value has an allowed level");
-            return Ok(EvenMade { worst_step: table.worst_step, entries: table.entries, judged });
+            return Ok(EvenMade { worst_step: table.worst_step, entries: table.entries, steps, judged });
         }
         equal("even, refusal", got.refusal, 0)?;
         let entries: Vec<u64> = self.lent.table.slice(ENTRIES).iter().map(|&level| u64::from(level)).collect();
         nothing("even", fault(job, &entries, got.worst_step))?;
-        Ok(EvenMade { worst_step: got.worst_step, entries, judged })
+        Ok(EvenMade { worst_step: got.worst_step, entries, steps, judged })
     }
 
     fn check(&mut self, bytes: &[u8], lengths: Lengths, job: &Result<Sound, u32>) -> Result<(Check, Option<Contrast>), String> {
