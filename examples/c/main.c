@@ -9,7 +9,7 @@
 #include "yepidlaw.h"
 
 enum { ENTRIES = 256, WORDS = 8192, PLACES = 17 };
-/* One more than the longest record has, so that a longer one is refused. */
+/* One more than the longest record has, so that bytes after it are seen. */
 enum { MOST_BYTES = 6251 };
 
 /* What each refusal means, by its number. */
@@ -122,6 +122,7 @@ int main(int argc, char **argv) {
         perror(argc < 2 ? "standard input" : argv[1]);
         return 2;
     }
+    fclose(file);
     make(record, n, &summary);
     return print_summary(&summary);
 }

@@ -9,7 +9,7 @@ use std::process::ExitCode;
 
 use yepidlaw::{ContrastCheck, EvenTable, NearestTable, Refusal, ENTRIES};
 
-/// One more than the longest record has, so that a longer one is refused.
+/// One more than the longest record has, so that bytes after it are seen.
 const MOST_BYTES: u64 = 6_251;
 
 fn read(path: Option<&String>) -> io::Result<Vec<u8>> {
