@@ -8,4 +8,5 @@ pub mod Written
 pub mod RoundTrip
 pub mod Outcomes
 pub mod Lengths
+pub mod Front
 pub mod Accepted

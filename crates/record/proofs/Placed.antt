@@ -120,7 +120,7 @@ pub record Sizes (s : List ℕ) (a b c d : ℕ) : Type 0 where
 at-least-2 : (n : ℕ) → permitted Sweep n ≡ true → 2 ≤ n
 at-least-2 n h = by (leb 2 n) (leb-true 2 n) (λ p. absurd (false≢true (simp p at h)))
 
-up-to-18 : (n : ℕ) → permitted Check n ≡ true → n ≤ 18
+pub up-to-18 : (n : ℕ) → permitted Check n ≡ true → n ≤ 18
 up-to-18 n h = by (eqb n 0) (λ p. omega (arith, eqb-true n 0 p)) (λ p. omega (arith, eqb-true n 18 (simp p at h)))
 
 pub sizes : (s : List ℕ) (a b c d : ℕ) → layoutOf s ≡ Complete a b c d → Sizes s a b c d

@@ -1,3 +1,4 @@
 pub mod Decimal
 pub mod Putting
 pub mod Reporting
+pub mod Facts

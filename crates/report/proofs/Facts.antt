@@ -1,0 +1,28 @@
+-- What follows from the definition of the report.
+-- Assumes nothing.
+use Prim.Native.Nat.{ℕ}
+use mathlib.Core.Path.{_≡_, refl}
+use mathlib.Core.List.{List, []}
+use lib.ListN.{take}
+use Rattle.record.specs.Sections.{sections, layoutOf, countOf}
+use Rattle.record.specs.Tests.{answerOf}
+use Rattle.record.proofs.Front.{sections-front}
+use Rattle.engine.specs.Sound.{soundness}
+use Rattle.engine.specs.Nearest.{nearestAnswer, nearestLent}
+use Rattle.engine.specs.Even.{evenAnswer, evenLent}
+use Rattle.engine.specs.Check.{checkAnswer}
+use Rattle.report.specs.Text.{text, decimal, digitsWithin}
+use Rattle.report.specs.Report.{reportOf, entries}
+use Rattle.report.specs.Facts.{ReportFacts}
+
+-- all that the operations use of the bytes are their sections
+front : (bytes : List ℕ) (words : ℕ) → reportOf (take 6251 bytes) words ≡ reportOf bytes words
+unfolding reportOf nearestAnswer nearestLent evenAnswer evenLent checkAnswer soundness answerOf
+front bytes words = rw (sections-front bytes) refl
+
+empty : (words : ℕ) → reportOf [] words ≡ text "refused 2\n"
+unfolding reportOf entries nearestAnswer soundness answerOf sections layoutOf countOf text decimal digitsWithin
+empty words = refl
+
+pub report-facts : ReportFacts
+report-facts = record { front = front; empty = empty }
