@@ -5,7 +5,7 @@ ghost use mathlib.Core.List.{[], _∷_, _++_};
 ghost use lib.ListN.{length};
 ghost use Rattle.record.specs.Refusals.{refusalNumber};
 ghost use Rattle.report.specs.Text.{decimal};
-ghost use Rattle.report.specs.Report.{ReportPromise, WordsKept, entries, reportBy, refusedLine, rangeLine, roomLine, evenLine, verdictLine, row, rows, linesOf};
+ghost use Rattle.report.specs.Report.{ReportPromise, WordsKept, entries, reportBy, refusedLine, rangeLine, roomLine, evenLine, row, rows, linesOf};
 ghost use Rattle.report.specs.Putting.{Put, Spelled, RowsFit, LinesFit, ReportFits};
 ghost use Rattle.engine.specs.Even.{evenAnswer, evenLent};
 ghost use Rattle.engine.specs.Check.{checkAnswer};
