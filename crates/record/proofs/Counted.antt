@@ -14,8 +14,6 @@ use Rattle.record.specs.Bytes.{word}
 use Rattle.record.specs.Sections.{permitted, width, countOf}
 use Rattle.record.specs.declared.Section.{Section}
 use Rattle.record.specs.declared.Section.the-variants.{Settings, Lamps, Sweep, Check}
-use Rattle.record.specs.declared.Section.the-variants.{Settings, Lamps, Sweep, Check}
-use Rattle.record.specs.declared.Section.the-variants.{Settings, Lamps, Sweep, Check}
 use Rattle.record.specs.declared.SectionCount.the-variants.{Items, Fault}
 use Rattle.record.specs.declared.Refusal.the-variants.{RecordTooShort, CountNotPermitted}
 

@@ -3,7 +3,7 @@
 use Prim.Native.Nat.{ℕ, _+_, _-_, _*_}
 use mathlib.Core.Path.{_≡_, refl, sym, ap, _∙_}
 use mathlib.Core.List.{List, _++_}
-use lib.ListN.{length, take, drop}
+use lib.ListN.{length, take, drop, length-append, length-drop}
 use lib.Seq.{take-at, take-all}
 use native.Mathlib.Omega.{arith}
 use Rattle.record.specs.Bytes.{word, long, fields}
@@ -39,6 +39,9 @@ part s from end = take (end - from) (drop from s)
 front : (w : ℕ) (f : List ℕ → ℕ) (n : ℕ) (bs zs : List ℕ) → take n (fields w f n bs ++ zs) ≡ fields w f n bs
 front w f n bs zs = take-at (fields w f n bs) zs n (fields-length w f n bs)
 
+filled-length : (w : ℕ) (f : List ℕ → ℕ) (n : ℕ) (bs zs : List ℕ) → length (fields w f n bs ++ drop n zs) ≡ n + (length zs - n)
+filled-length w f n bs zs = rw (length-append, fields-length, length-drop)
+
 module _ (s : List ℕ) (a b c d : ℕ) (l : layoutOf s ≡ Complete a b c d) where
   -- the five lists, from those parts
   pub lists-of : sections s ≡ lists
@@ -56,11 +59,23 @@ module _ (s : List ℕ) (a b c d : ℕ) (l : layoutOf s ≡ Complete a b c d) wh
       let e₃ : part s (atCheck a b c + 2) (atEnd a b c d) ≡ items Check d (rest Sweep c (rest Lamps b (rest Settings a s))) = part-is Check s (atCheck a b c) d (atEnd a b c d) refl ∙ ap (items Check d) (sym (at-check s a b c)) in
       rw (l, e₀, e₁, e₂, e₃, z .settings)
 
-  pub judgeable : (st la ds ls : List ℕ) → length st ≡ 5 → length la ≡ 8 → length ds ≡ 1024 → length ls ≡ 1024 → Judgeable st la b ds ls c
-  judgeable st la ds ls h k m n =
+  -- the arrays after their fronts were filled
+  pub judgeable : {st la ds ls : List ℕ} (s₀ s₁ s₂ zs₁ zs₂ zs₃ : List ℕ)
+      → st ≡ fields 2 (word 0) 5 s₀
+      → la ≡ fields 2 (word 0) b s₁ ++ drop b zs₁
+      → length zs₁ ≡ 8
+      → ds ≡ fields 6 (word 0) c s₂ ++ drop c zs₂
+      → length zs₂ ≡ 1024
+      → ls ≡ fields 6 (long 2) c s₂ ++ drop c zs₃
+      → length zs₃ ≡ 1024
+      → Judgeable st la b ds ls c
+  judgeable s₀ s₁ s₂ zs₁ zs₂ zs₃ st la k ds m ls n =
       let z = sizes s a b c d l in
+      let eight = ap length la ∙ filled-length 2 (word 0) b s₁ zs₁ in
+      let levels = ap length ds ∙ filled-length 6 (word 0) c s₂ zs₂ in
+      let luminances = ap length ls ∙ filled-length 6 (long 2) c s₂ zs₃ in
       record {
-        five = h;
+        five = ap length st ∙ fields-length 2 (word 0) 5 s₀;
         up-to-8 = z .lamps;
         lamps-fit = omega arith;
         some-readings = omega arith;
