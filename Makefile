@@ -1,3 +1,4 @@
+# make demo     proves and builds the program, runs it on a sample and explains its report
 # make test     proves everything and runs all tests
 # make bench    measures the engine and the program beside Rust and C, and writes docs/BENCHMARK.md
 # make fuzz     runs the library on records that coverage leads to, for up to an hour, and writes a section of docs/BENCHMARK.md
@@ -5,9 +6,12 @@
 # make job      builds tools/job, as tests/target/release/job
 # make vectors  writes the records and reports of tests/vectors, and the reports of the samples
 # make table    writes the sources of Table B-1 from data/table-b1.tsv
-.PHONY: test bench fuzz memory job vectors table
+.PHONY: demo test bench fuzz memory job vectors table
 
 cargo = cargo build --release --offline --locked --manifest-path tests/Cargo.toml --target-dir tests/target
+
+demo:
+	tools/demo
 
 test:
 	.ci/run
