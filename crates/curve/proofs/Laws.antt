@@ -1,6 +1,6 @@
 -- The laws of the characteristic curve.
 -- Assumes nothing.
-use mathlib.Core.Path.{_≡_, sym}
+use mathlib.Core.Path.{_≡_, sym, _∙_}
 use mathlib.Core.Logic.{⊎-elim}
 use mathlib.Core.Bool.{Bool}
 use mathlib.Core.List.{List}
@@ -13,7 +13,7 @@ use lib.Dec.{leb}
 use mir.Facts.{leb-yes, yes-leb, clash}
 use Rattle.laws.specs.Rises.{NeverFalls}
 use Rattle.laws.proofs.Cases.{le-or-lt}
-use Rattle.laws.proofs.Numbers.{Grows, never-falls}
+use Rattle.laws.proofs.Rises.{keeps-by-steps}
 use Rattle.laws.proofs.Search.{any-intro, lowest-passes, lowest-le, lowest-is}
 use Rattle.laws.proofs.Fill.{length-tab, getD-tab}
 use Rattle.curve.specs.Curve.{pairAt, byPair, curveAt, curveOf, Sweep}
@@ -26,6 +26,13 @@ pair-is ddls i d inside to passed =
     lowest-is (λ i. leb d (getD ddls (i + 1) 0)) (length ddls - 1) i (omega arith) (yes-leb to) (λ j h t. clash (passed j h) (leb-yes t))
 
 module _ {ddls luminances : List ℕ} {top : ℕ} (s : Sweep ddls luminances top) where
+  -- levels never fall along the sweep, and none is above the top
+  ddls-keep : NeverFalls ddls
+  ddls-keep = keeps-by-steps ddls (λ i h. omega (arith, s .rise i h))
+
+  pub ddl-top : (i : ℕ) → i < length ddls → getD ddls i 0 ≤ top
+  ddl-top i h = omega (arith, s .last, ddls-keep .keeps i (length ddls - 1) (omega arith) (omega arith))
+
   -- the last pair ends at the top
   ends : (d : ℕ) → d ≤ top → d ≤ getD ddls (length ddls - 2 + 1) 0
   ends d h =
@@ -49,17 +56,6 @@ module _ {ddls luminances : List ℕ} {top : ℕ} (s : Sweep ddls luminances top
     unfolding pairAt
     pair-passed j l =
         ⊎-elim (λ t. clash l (lowest-le (λ i. leb d (getD ddls (i + 1) 0)) (length ddls - 1) j (yes-leb t))) (λ t. t) (le-or-lt d (getD ddls (j + 1) 0))
-
-    pub pair-from : getD ddls (pairAt ddls d) 0 ≤ d
-    pair-from =
-        ⊎-elim
-        (λ e. let z : pairAt ddls d ≡ 0 = sym e in rw z (omega (arith, s .first)))
-        (λ l.
-        let e : pairAt ddls d - 1 + 1 ≡ pairAt ddls d = omega arith in
-        let u : getD ddls (pairAt ddls d - 1 + 1) 0 < d = pair-passed (pairAt ddls d - 1) (omega arith) in
-        let v : getD ddls (pairAt ddls d) 0 < d = rw e at u in
-        omega arith)
-        (eq-or-lt-of-le {n = 0} {m = pairAt ddls d} zero-le)
 
   -- what the pair at place i gives at level d is between its two readings
   module _ (i : ℕ) (inside : i + 1 < length ddls) where
@@ -111,6 +107,14 @@ module _ {ddls luminances : List ℕ} {top : ℕ} (s : Sweep ddls luminances top
         (λ ki. clash (pair-passed d dt k ki) (le-trans h (pair-to e l)))
         (le-or-lt i k)
 
+    -- F above one reading, up to the next
+    pub curve-between : (i d : ℕ) → i + 1 < length ddls → getD ddls i 0 < d → d ≤ getD ddls (i + 1) 0
+        → curveAt added ddls luminances d ≡ added + byPair ddls luminances i d
+    unfolding curveAt
+    curve-between i d inside from to =
+        let e : pairAt ddls d ≡ i = pair-is ddls i d inside to (λ j l. omega (arith, ddls-keep .keeps (j + 1) i (omega arith) (omega arith))) in
+        rw e
+
     -- F at the level of a reading
     pub curve-reading : (i : ℕ) → i < length ddls → curveAt added ddls luminances (getD ddls i 0) ≡ added + getD luminances i 0
     unfolding curveAt
@@ -119,14 +123,8 @@ module _ {ddls luminances : List ℕ} {top : ℕ} (s : Sweep ddls luminances top
         rw (e, by-first 0 (omega (arith, s .some)))
     curve-reading (suc i) h =
         let n : suc i ≡ i + 1 = sym (add-one i) in
-        let e : pairAt ddls (getD ddls (i + 1) 0) ≡ i = pair-is ddls i (getD ddls (i + 1) 0) (omega arith) (le-refl _) (λ j l. rises-over j i l (omega arith)) in
-        rw (n, e, by-last i (omega arith))
-      where
-        grows : Grows (λ i. getD ddls i 0) 1 0 (length ddls - 1)
-        grows = record { step = λ k a b. omega (arith, s .rise k (omega arith)) }
-
-        rises-over : (j i : ℕ) → j < i → i + 1 < length ddls → getD ddls (j + 1) 0 < getD ddls (i + 1) 0
-        rises-over j i a b = omega (arith, s .rise i b, never-falls grows (j + 1) i zero-le (omega arith) (omega arith))
+        let inside : i + 1 < length ddls = omega arith in
+        rw n (curve-between i (getD ddls (i + 1) 0) inside (s .rise i inside) (le-refl _) ∙ rw (by-last i inside))
 
     pub curve-first : curveAt added ddls luminances 0 ≡ added + getD luminances 0 0
     curve-first =

@@ -1,5 +1,5 @@
 -- `Examples`: document 01's marked examples. `Room`: the light of the room. `Interpolation`: the value between two readings.
--- `Laws`: the curve of a sweep. `Walk`: the curve, level by level.
+-- `Laws`: the curve of a sweep. `Walk`: the curve, from reading to reading.
 pub mod Examples
 pub mod Room
 pub mod Interpolation

@@ -1,14 +1,14 @@
 -- Lists filled from the front, place by place: with f 0, f 1, .., or with another list's elements.
 -- Assumes nothing.
 use mathlib.Core.Path.{_≡_, refl, sym, ap, _∙_}
-use mathlib.Core.List.{List, [], _∷_, _++_, append-assoc}
+use mathlib.Core.List.{List, [], _∷_, _++_, append-assoc, append-nil}
 use Prim.Native.Nat.{ℕ, zero, suc, _+_, _≤_, _<_}
 use mathlib.Core.Logic.{⊎-elim}
-use native.Mathlib.Nat.{not-suc-le-zero, le-of-suc-le-suc, eq-or-lt-of-le}
+use native.Mathlib.Nat.{add-zero, add-suc, not-suc-le-zero, le-of-suc-le-suc, eq-or-lt-of-le}
 use native.Mathlib.Numerals.{add-one}
 use native.Mathlib.Omega.{arith}
 use lib.ListN.{length, take, drop, set, getD, length-set, length-append, List·getD-append}
-use lib.Seq.{drop-cons, set-at, getD-at, take-suc, take-length, length-take-le, length-front}
+use lib.Seq.{drop-cons, drop-drop, set-at, getD-at, take-at, drop-at, take-suc, take-length, length-take-le, length-front}
 use Rattle.laws.specs.Fill.{tab}
 
 module _ {ℓ} {A : Type ℓ} (f : ℕ → A) where
@@ -35,6 +35,17 @@ module _ {ℓ} {A : Type ℓ} (f : ℕ → A) where
       List·getD-append (tab f n) (f n ∷ []) x i k ∙ getD-tab n i x l)
       (eq-or-lt-of-le (le-of-suc-le-suc h))
 
+  -- n places more
+  pub tab-append : (a n : ℕ) → tab f (a + n) ≡ tab f a ++ tab (λ i. f (a + i)) n
+  unfolding tab
+  tab-append a zero = simp (add-zero, append-nil)
+  tab-append a (suc n) = rw (add-suc, tab-append a n) (append-assoc (tab f a) (tab (λ i. f (a + i)) n) (f (a + n) ∷ []))
+
+pub tab-same {ℓ} : {A : Type ℓ} (f g : ℕ → A) (n : ℕ) → ((i : ℕ) → i < n → f i ≡ g i) → tab f n ≡ tab g n
+unfolding tab
+tab-same f g zero h = refl
+tab-same f g (suc n) h = rw (tab-same f g n (λ i l. h i (omega arith)), h n (omega arith)) refl
+
 -- the first n places hold f 0, f 1, .., and the others what they held before
 pub record Filled {ℓ} {A : Type ℓ} (f : ℕ → A) (before now : List A) (n : ℕ) : Type ℓ where
   pub is : now ≡ tab f n ++ drop n before
@@ -50,6 +61,19 @@ module _ {ℓ} {A : Type ℓ} (f : ℕ → A) (before : List A) where
     is = rw (e, h .is) (fill f before n l);
     len = length-set now n x ∙ h .len;
   }
+
+  -- n places more, filled as a part of the list
+  pub filled-part : (now : List A) (a n : ℕ) (ys : List A) → Filled f before now a → a + n ≤ length before → ys ≡ tab (λ i. f (a + i)) n
+      → Filled f before (take a now ++ (ys ++ drop n (drop a now))) (a + n)
+  filled-part now a n ys h l e = record {
+    is = front;
+    len = ap length front ∙ length-front before (tab f (a + n)) (a + n) (length-tab f (a + n) ∙ sym (length-take-le (a + n) before l));
+  }
+    where
+      front : take a now ++ (ys ++ drop n (drop a now)) ≡ tab f (a + n) ++ drop (a + n) before
+      front =
+          rw (h .is, e, take-at (tab f a) (drop a before) a (length-tab f a), drop-at (tab f a) (drop a before) a (length-tab f a), drop-drop n a before, tab-append f a n)
+          (sym (append-assoc (tab f a) (tab (λ i. f (a + i)) n) (drop (a + n) before)))
 
   pub filled-at : (now : List A) (n i : ℕ) (x : A) → Filled f before now n → i < n → getD now i x ≡ f i
   filled-at now n i x h l =
