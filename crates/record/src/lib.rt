@@ -380,38 +380,37 @@ pub fn max_ddl(depth: u16) -> Ddl
     Ddl(1023)
 }
 
+// This loop and the next one go on after a fault: the compiler makes vectors of them then, which it does not of a loop that returns.
 fn rise_strictly(ddls: &[u16], n: usize) -> bool
     requires { ⌜ (1 ≤ n) × (n ≤ length (now ddls)) ⌝ }
     ensures { λ r. ⌜ r ≡ risesBy 1 (take n (now (ddls .entry))) ⌝ }
 {
+    let mut rising = true;
     let mut last = ddls[0];
     let mut i: usize = 1;
     while i < n {
         let ddl = ddls[i];
-        if ddl <= last {
-            return false;
-        }
+        rising = rising & (last < ddl);
         last = ddl;
         i += 1;
     }
-    true
+    rising
 }
 
 fn never_fall(luminances: &[u32], n: usize) -> bool
     requires { ⌜ (1 ≤ n) × (n ≤ length (now luminances)) ⌝ }
     ensures { λ r. ⌜ r ≡ neverFalls (take n (now (luminances .entry))) ⌝ }
 {
+    let mut kept = true;
     let mut last = luminances[0];
     let mut i: usize = 1;
     while i < n {
         let luminance = luminances[i];
-        if luminance < last {
-            return false;
-        }
+        kept = kept & (last <= luminance);
         last = luminance;
         i += 1;
     }
-    true
+    kept
 }
 
 // Test 6.
