@@ -9,7 +9,7 @@ fn print(text: &[u8], size: usize)
 }
 
 fn main() {
-    // One byte more than the longest record: a longer input is known to be too long, and the rest of it is not read.
+    // One byte more than the longest record: what follows it in a longer input changes nothing, and is not read.
     let mut record = [0u8; 6251];
     let read = io::read_full(0, &mut record);
     let mut work = [0u32; 8192];

@@ -11,7 +11,7 @@ use native.Mathlib.Nat.{not-suc-le-zero, div-lt-iff-lt-mul}
 use native.Mathlib.Omega.{arith}
 use borrow.Author.Tests.{lt-ltb, le-ltb}
 use Rattle.laws.proofs.Cases.{le-or-lt}
-use Rattle.report.specs.Text.{digit, digitsWithin, decimal, spelt, Digits, Decimal}
+use Rattle.report.specs.Text.{text, digit, digitsWithin, decimal, numberOf, Digits, Decimal}
 
 -- more steps than enough change nothing
 same-digits : (f g n : ℕ) → n < f → n < g → digitsWithin f n ≡ digitsWithin g n
@@ -50,10 +50,10 @@ decimal-some n =
 
 -- ---- what is known of every number
 
-spelt-more : (v : ℕ) (xs : List ℕ) (x : ℕ) → spelt v (xs ++ (x ∷ [])) ≡ spelt v xs * 10 + (x - 48)
-unfolding spelt
-spelt-more v [] x = refl
-spelt-more v (y ∷ ys) x = spelt-more (v * 10 + (y - 48)) ys x
+number-more : (v : ℕ) (xs : List ℕ) (x : ℕ) → numberOf v (xs ++ (x ∷ [])) ≡ numberOf v xs * 10 + (x - 48)
+unfolding numberOf
+number-more v [] x = refl
+number-more v (y ∷ ys) x = number-more (v * 10 + (y - 48)) ys x
 
 no-digits : Digits []
 no-digits = record { low = λ i l. absurd (not-suc-le-zero l); high = λ i l. absurd (not-suc-le-zero l) }
@@ -69,18 +69,20 @@ one-more xs x d p q = record { low = λ i l. at (λ y. 48 ≤ y) i l (d .low i) 
         (le-or-lt (length xs) i)
 
 first-digit : (n : ℕ) → n < 10 → Decimal n
-unfolding spelt
+unfolding numberOf text
 first-digit n h = record {
   digits = rw (decimal-one n h) (one-more [] (digit n) no-digits (omega arith) (omega arith));
-  spells = rw (decimal-one n h) (omega arith);
-  no-zero = λ p. rw (decimal-one n h) (omega arith);
+  stands-for = rw (decimal-one n h) (omega arith);
+  no-leading-zero = λ p. rw (decimal-one n h) (omega arith);
+  zero-alone = λ e. rw (decimal-one n h, e) refl;
 }
 
 last-digit : (n : ℕ) → 10 ≤ n → Decimal (n / 10) → Decimal n
 last-digit n h d = record {
   digits = rw (decimal-more n h) (one-more (decimal (n / 10)) (digit (n % 10)) (d .digits) (omega arith) (omega arith));
-  spells = ap (spelt 0) (decimal-more n h) ∙ spelt-more 0 (decimal (n / 10)) (digit (n % 10)) ∙ rw (d .spells) (omega arith);
-  no-zero = λ p. rw (decimal-more n h, List·getD-append (decimal (n / 10)) (digit (n % 10) ∷ []) 0 0 (decimal-some (n / 10))) (d .no-zero (omega arith));
+  stands-for = ap (numberOf 0) (decimal-more n h) ∙ number-more 0 (decimal (n / 10)) (digit (n % 10)) ∙ rw (d .stands-for) (omega arith);
+  no-leading-zero = λ p. rw (decimal-more n h, List·getD-append (decimal (n / 10)) (digit (n % 10) ∷ []) 0 0 (decimal-some (n / 10))) (d .no-leading-zero (omega arith));
+  zero-alone = λ e. absurd (omega arith);
 }
 
 decimal-within : (f n : ℕ) → n < f → Decimal n

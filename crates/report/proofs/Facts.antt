@@ -1,9 +1,10 @@
 -- What follows from the definition of the report.
 -- Assumes nothing.
-use Prim.Native.Nat.{ℕ}
+use Prim.Native.Nat.{ℕ, _≤_}
 use mathlib.Core.Path.{_≡_, refl}
 use mathlib.Core.List.{List, []}
 use lib.ListN.{take}
+use borrow.Author.Tests.{le-ltb}
 use Rattle.record.specs.Sections.{sections, layoutOf, countOf}
 use Rattle.record.specs.Tests.{answerOf}
 use Rattle.record.proofs.Front.{sections-front}
@@ -24,5 +25,9 @@ empty : (words : ℕ) → reportOf [] words ≡ text "refused 2\n"
 unfolding reportOf entries nearestAnswer soundness answerOf sections layoutOf countOf text decimal digitsWithin
 empty words = refl
 
+words-enough : (bytes : List ℕ) (words : ℕ) → 8192 ≤ words → reportOf bytes words ≡ reportOf bytes 8192
+unfolding reportOf entries evenAnswer evenLent
+words-enough bytes words h = simp (le-ltb words 8192 h)
+
 pub report-facts : ReportFacts
-report-facts = record { front = front; empty = empty }
+report-facts = record { front = front; empty = empty; words-enough = words-enough }

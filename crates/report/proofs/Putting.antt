@@ -12,7 +12,7 @@ use mir.Syntax.{w16, w32, w64}
 use mir.Val.{Fits}
 use Rattle.report.specs.Text.{digit, decimal}
 use Rattle.report.specs.Report.{row, rows}
-use Rattle.report.specs.Putting.{Put, Spelled}
+use Rattle.report.specs.Putting.{Put, DigitsAtEnd}
 use Rattle.report.proofs.Decimal.{decimal-one, decimal-more, decimal-some, decimal-fits}
 
 module _ {before : List ℕ} where
@@ -100,7 +100,7 @@ module _ {n : ℕ} {digits : List ℕ} {from rest : ℕ} (s : Spelling n digits 
     starts = omega (arith, s .starts);
   }
 
-  pub spelling-all : rest < 10 → Spelled n (set digits (from - 1) (digit rest)) (from - 1)
+  pub spelling-all : rest < 10 → DigitsAtEnd n (set digits (from - 1) (digit rest)) (from - 1)
   spelling-all h = record {
     starts = omega (arith, s .starts);
     size = length-set digits (from - 1) _ ∙ s .size;
@@ -108,10 +108,10 @@ module _ {n : ℕ} {digits : List ℕ} {from rest : ℕ} (s : Spelling n digits 
   }
 
 -- the part that holds the digits
-pub spelled-part : {n : ℕ} {digits : List ℕ} {from : ℕ} → Spelled n digits from → take (20 - from) (drop from digits) ≡ decimal n
+pub spelled-part : {n : ℕ} {digits : List ℕ} {from : ℕ} → DigitsAtEnd n digits from → take (20 - from) (drop from digits) ≡ decimal n
 spelled-part {digits = digits} {from = from} s = take-all (20 - from) (drop from digits) (omega (arith, length-drop from digits, s .size)) ∙ s .are
 
-pub put-digits : {n : ℕ} {digits : List ℕ} {from : ℕ} {before after : List ℕ} {at end : ℕ} → Spelled n digits from
+pub put-digits : {n : ℕ} {digits : List ℕ} {from : ℕ} {before after : List ℕ} {at end : ℕ} → DigitsAtEnd n digits from
     → Put (take (20 - from) (drop from digits)) before after at end → Put (decimal n) before after at end
 put-digits s p = rw (← spelled-part s) p
 

@@ -12,7 +12,7 @@ pub record Put (piece before after : List ℕ) (at end : ℕ) : Type 0 where
   pub front : take end after ≡ take at before ++ piece
 
 -- the decimal digits of n are the last of 20 places, from a place on
-pub record Spelled (n : ℕ) (digits : List ℕ) (from : ℕ) : Type 0 where
+pub record DigitsAtEnd (n : ℕ) (digits : List ℕ) (from : ℕ) : Type 0 where
   pub starts : from ≤ 20
   pub size : length digits ≡ 20
   pub are : drop from digits ≡ decimal n

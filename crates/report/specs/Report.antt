@@ -5,6 +5,7 @@ use mathlib.Core.List.{List, [], _++_}
 use lib.IntN.{ℤ, pos}
 use lib.ListN.{length, take, getD, replicate}
 use Rattle.record.specs.Refusals.{refusalNumber}
+use Rattle.record.specs.declared.Refusal.{Refusal}
 use Rattle.curve.specs.declared.RoomMark.{RoomMark}
 use Rattle.curve.specs.declared.RoomMark.the-variants.{Low, High}
 use Rattle.contrast.specs.declared.Verdict.{Verdict}
@@ -37,8 +38,8 @@ abbrev pub roomLine : RoomMark → List ℕ
 roomLine Low = text "room low\n"
 roomLine High = text "room high\n"
 
-abbrev pub evenLine : (deviation : ℕ) → List ℕ
-evenLine deviation = text "even " ++ decimal deviation ++ text "\n"
+abbrev pub evenLine : (worstStep : ℕ) → List ℕ
+evenLine worstStep = text "even " ++ decimal worstStep ++ text "\n"
 
 abbrev pub verdictLine : Verdict → List ℕ
 verdictLine Pass = text "check pass\n"
@@ -57,11 +58,11 @@ rows nearest even zero = []
 rows nearest even (suc n) = rows nearest even n ++ row n (getD nearest n 0) (getD even n 0)
 
 -- the lines of a job that is not refused
-abbrev pub lines : (jlo jhi range : ℕ) → RoomMark → (deviation : ℕ) → (checkLine nearest even : List ℕ) → List ℕ
-lines jlo jhi range mark deviation checkLine nearest even =
-    rangeLine jlo jhi range ++ roomLine mark ++ evenLine deviation ++ checkLine ++ rows nearest even 256
+abbrev pub lines : (jlo jhi range : ℕ) → RoomMark → (worstStep : ℕ) → (checkLine nearest even : List ℕ) → List ℕ
+lines jlo jhi range mark worstStep checkLine nearest even =
+    rangeLine jlo jhi range ++ roomLine mark ++ evenLine worstStep ++ checkLine ++ rows nearest even 256
 
-abbrev pub linesOf : NearestFigures → (deviation : ℕ) → (checkLine nearest even : List ℕ) → List ℕ
+abbrev pub linesOf : NearestFigures → (worstStep : ℕ) → (checkLine nearest even : List ℕ) → List ℕ
 linesOf f = lines (f .indices .low .0) (f .indices .high .0) (f .indices .range .0) (f .mark)
 
 -- ---- the whole report, as an equation
@@ -94,35 +95,36 @@ reportOf bytes words =
 -- ---- the same in document 01's numbers and conditions
 
 -- the values of the two tables that are printed
-pub record Tables (bytes work : List ℕ) (jlo jhi range : ℕ) (mark : RoomMark) (deviation : ℕ) (nearest even : List ℕ) : Type 0 where
+pub record Tables (bytes work : List ℕ) (jlo jhi range : ℕ) (mark : RoomMark) (worstStep : ℕ) (nearest even : List ℕ) : Type 0 where
   pub error : ℕ
   pub made : NearestOutcome bytes entries nearest (values jlo jhi range mark error)
-  pub even-made : EvenOutcome bytes entries work even (worst deviation)
+  pub even-made : EvenOutcome bytes entries work even (worst worstStep)
 
 -- what can come of a record: the number of the first operation that refuses it, or both tables and what the check says
 pub data ReportOutcome (bytes work : List ℕ) : (report : List ℕ) → Type 0 where
   by-nearest : {n : ℕ} {after : List ℕ} → NearestOutcome bytes entries after (of-nearest.number n) → ReportOutcome bytes work (refusedLine n)
   by-even : {n jlo jhi range error : ℕ} {mark : RoomMark} {table after : List ℕ} → NearestOutcome bytes entries table (values jlo jhi range mark error)
       → EvenOutcome bytes entries work after (of-even.number n) → ReportOutcome bytes work (refusedLine n)
-  by-check : {n jlo jhi range deviation : ℕ} {mark : RoomMark} {nearest even : List ℕ} {after : List ℤ}
-      → Tables bytes work jlo jhi range mark deviation nearest even → CheckOutcome bytes places after (of-check.number n) → ReportOutcome bytes work (refusedLine n)
-  unmeasured : {jlo jhi range deviation : ℕ} {mark : RoomMark} {nearest even : List ℕ} {after : List ℤ}
-      → Tables bytes work jlo jhi range mark deviation nearest even → CheckOutcome bytes places after not-measured
-      → ReportOutcome bytes work (lines jlo jhi range mark deviation unmeasuredLine nearest even)
-  passes : {jlo jhi range deviation : ℕ} {mark : RoomMark} {nearest even : List ℕ} {after : List ℤ}
-      → Tables bytes work jlo jhi range mark deviation nearest even → CheckOutcome bytes places after pass
-      → ReportOutcome bytes work (lines jlo jhi range mark deviation (verdictLine Pass) nearest even)
-  fails : {jlo jhi range deviation : ℕ} {mark : RoomMark} {nearest even : List ℕ} {after : List ℤ}
-      → Tables bytes work jlo jhi range mark deviation nearest even → CheckOutcome bytes places after fail
-      → ReportOutcome bytes work (lines jlo jhi range mark deviation (verdictLine Fail) nearest even)
+  by-check : {n jlo jhi range worstStep : ℕ} {mark : RoomMark} {nearest even : List ℕ} {after : List ℤ}
+      → Tables bytes work jlo jhi range mark worstStep nearest even → CheckOutcome bytes places after (of-check.number n) → ReportOutcome bytes work (refusedLine n)
+  unmeasured : {jlo jhi range worstStep : ℕ} {mark : RoomMark} {nearest even : List ℕ} {after : List ℤ}
+      → Tables bytes work jlo jhi range mark worstStep nearest even → CheckOutcome bytes places after not-measured
+      → ReportOutcome bytes work (lines jlo jhi range mark worstStep unmeasuredLine nearest even)
+  passes : {jlo jhi range worstStep : ℕ} {mark : RoomMark} {nearest even : List ℕ} {after : List ℤ}
+      → Tables bytes work jlo jhi range mark worstStep nearest even → CheckOutcome bytes places after pass
+      → ReportOutcome bytes work (lines jlo jhi range mark worstStep (verdictLine Pass) nearest even)
+  fails : {jlo jhi range worstStep : ℕ} {mark : RoomMark} {nearest even : List ℕ} {after : List ℤ}
+      → Tables bytes work jlo jhi range mark worstStep nearest even → CheckOutcome bytes places after fail
+      → ReportOutcome bytes work (lines jlo jhi range mark worstStep (verdictLine Fail) nearest even)
 
--- what is promised: the first so many bytes of the text are the report
-pub record ReportPromise (bytes work text : List ℕ) (size : ℕ) : Type 0 where
-  pub fits : size ≤ length text
-  pub report : take size text ≡ reportOf bytes (length work)
-  pub outcome : ReportOutcome bytes work (take size text)
+-- what is promised: the first so many bytes of a buffer are the report
+pub record ReportPromise (bytes work buffer : List ℕ) (size : ℕ) : Type 0 where
+  pub fits : size ≤ length buffer
+  pub report : take size buffer ≡ reportOf bytes (length work)
+  pub outcome : ReportOutcome bytes work (take size buffer)
 
--- and of the words lent: those after the first 8,192 are as they were
-pub record WordsKept (work workAfter : List ℕ) : Type 0 where
+-- and of the words lent: those after the first 8,192 are as they were, and all of them where the even table is refused, as it is wherever the nearest is
+pub record WordsKept (bytes work workAfter : List ℕ) : Type 0 where
   pub size : length workAfter ≡ length work
   pub later : (i : ℕ) → 8192 ≤ i → getD workAfter i 0 ≡ getD work i 0
+  pub refused : {r : Refusal} → evenAnswer bytes (length entries) (length work) ≡ even.Refused r → workAfter ≡ work

@@ -28,18 +28,19 @@ decimal n = digitsWithin (suc n) n
 
 -- ---- what is known of it
 
--- the number that digits spell, after those that spelled v
-unfoldable pub spelt : (v : ℕ) → List ℕ → ℕ
-spelt v [] = v
-spelt v (x ∷ xs) = spelt (v * 10 + (x - 48)) xs
+-- the number that digits stand for, after those of v
+unfoldable pub numberOf : (v : ℕ) → List ℕ → ℕ
+numberOf v [] = v
+numberOf v (x ∷ xs) = numberOf (v * 10 + (x - 48)) xs
 
 -- each of the codes is that of a digit
 pub record Digits (xs : List ℕ) : Type 0 where
   pub low : (i : ℕ) → i < length xs → 48 ≤ getD xs i 0
   pub high : (i : ℕ) → i < length xs → getD xs i 0 ≤ 57
 
--- n in decimal: digits alone, which spell n, and the first is 0 only where n is
+-- n in decimal: digits alone, which stand for n; the first is 0 only where n is, and then it is the only one
 pub record Decimal (n : ℕ) : Type 0 where
   pub digits : Digits (decimal n)
-  pub spells : spelt 0 (decimal n) ≡ n
-  pub no-zero : 0 < n → 48 < getD (decimal n) 0 0
+  pub stands-for : numberOf 0 (decimal n) ≡ n
+  pub no-leading-zero : 0 < n → 48 < getD (decimal n) 0 0
+  pub zero-alone : n ≡ 0 → decimal n ≡ text "0"

@@ -6,7 +6,7 @@ ghost use lib.ListN.{length};
 ghost use Rattle.record.specs.Refusals.{refusalNumber};
 ghost use Rattle.report.specs.Text.{decimal};
 ghost use Rattle.report.specs.Report.{ReportPromise, WordsKept, entries, reportBy, refusedLine, rangeLine, roomLine, evenLine, row, rows, linesOf};
-ghost use Rattle.report.specs.Putting.{Put, Spelled, RowsFit, LinesFit, ReportFits};
+ghost use Rattle.report.specs.Putting.{Put, DigitsAtEnd, RowsFit, LinesFit, ReportFits};
 ghost use Rattle.engine.specs.Even.{evenAnswer, evenLent};
 ghost use Rattle.engine.specs.Check.{checkAnswer};
 ghost use Rattle.engine.specs.declared.NearestAnswer.the-variants.{Made as near·Made};
@@ -26,21 +26,21 @@ use units::PValue;
 // Puts the decimal digits of n at the end of 20 places, and returns where they start.
 fn spell(n: u64, digits: &mut [u8]) -> usize
     requires { ⌜ length (now digits) ≡ 20 ⌝ }
-    ensures { λ r. ⌜ Spelled n (now (digits .exit)) r ⌝ }
+    ensures { λ r. ⌜ DigitsAtEnd n (now (digits .exit)) r ⌝ }
 {
     let mut from: usize = 20;
     let mut rest = n;
     while rest > 9 {
         from -= 1;
-        digits[from] = 48 + (rest % 10) as u8;
+        digits[from] = b'0' + (rest % 10) as u8;
         rest /= 10;
     }
     from -= 1;
-    digits[from] = 48 + rest as u8;
+    digits[from] = b'0' + rest as u8;
     from
 }
 
-// Each of the functions below puts a piece of text at place `at` of a buffer, and returns the place after it.
+// Each of the functions below puts a piece of text at place `at` of a buffer, or at its beginning, and returns the place after it.
 fn put_text(buffer: &mut [u8], at: usize, text: &[u8]) -> usize
     requires { ⌜ at + length (now text) ≤ length (now buffer) ⌝ }
     ensures { λ r. ⌜ Put (now (text .entry)) (now (buffer .entry)) (now (buffer .exit)) at r ⌝ }
@@ -70,8 +70,8 @@ fn put_refusal(buffer: &mut [u8], refusal: Refusal) -> usize
     ensures { λ r. ⌜ Put (refusedLine (refusalNumber refusal)) (now (buffer .entry)) (now (buffer .exit)) 0 r ⌝ }
 {
     let number = record::refusal_number(refusal);
-    let start = put_text(buffer, 0, b"refused ");
-    put_number(buffer, start, number as u64, 10)
+    let after_word = put_text(buffer, 0, b"refused ");
+    put_number(buffer, after_word, number as u64, b'\n')
 }
 
 // Jlo, Jhi and N.
@@ -85,10 +85,10 @@ fn put_range(buffer: &mut [u8], at: usize, indices: IndexRange) -> usize
     let jlo = low.0;
     let jhi = high.0;
     let range = width.0;
-    let start = put_text(buffer, at, b"range ");
-    let second = put_number(buffer, start, jlo as u64, 32);
-    let third = put_number(buffer, second, jhi as u64, 32);
-    put_number(buffer, third, range as u64, 10)
+    let after_word = put_text(buffer, at, b"range ");
+    let after_jlo = put_number(buffer, after_word, jlo as u64, b' ');
+    let after_jhi = put_number(buffer, after_jlo, jhi as u64, b' ');
+    put_number(buffer, after_jhi, range as u64, b'\n')
 }
 
 fn put_row(buffer: &mut [u8], at: usize, value: PValue, nearest: Ddl, even: Ddl) -> usize
@@ -98,9 +98,9 @@ fn put_row(buffer: &mut [u8], at: usize, value: PValue, nearest: Ddl, even: Ddl)
     let p = value.0;
     let first = nearest.0;
     let second = even.0;
-    let near = put_number(buffer, at, p as u64, 32);
-    let last = put_number(buffer, near, first as u64, 32);
-    put_number(buffer, last, second as u64, 10)
+    let after_value = put_number(buffer, at, p as u64, b' ');
+    let after_nearest = put_number(buffer, after_value, first as u64, b' ');
+    put_number(buffer, after_nearest, second as u64, b'\n')
 }
 
 fn put_room(buffer: &mut [u8], at: usize, mark: RoomMark) -> usize
@@ -114,12 +114,12 @@ fn put_room(buffer: &mut [u8], at: usize, mark: RoomMark) -> usize
 }
 
 // The worst step of the even table.
-fn put_even(buffer: &mut [u8], at: usize, deviation: u64) -> usize
+fn put_even(buffer: &mut [u8], at: usize, worst_step: u64) -> usize
     requires { ⌜ at + 26 ≤ length (now buffer) ⌝ }
-    ensures { λ r. ⌜ Put (evenLine deviation) (now (buffer .entry)) (now (buffer .exit)) at r × (r ≤ at + 26) ⌝ }
+    ensures { λ r. ⌜ Put (evenLine «worst_step») (now (buffer .entry)) (now (buffer .exit)) at r × (r ≤ at + 26) ⌝ }
 {
-    let start = put_text(buffer, at, b"even ");
-    put_number(buffer, start, deviation, 10)
+    let after_word = put_text(buffer, at, b"even ");
+    put_number(buffer, after_word, worst_step, b'\n')
 }
 
 // The rows of all P-values.
@@ -143,21 +143,21 @@ fn put_rows(buffer: &mut [u8], at: usize, nearest: &[u16], even: &[u16]) -> usiz
 fn put_lines(
     buffer: &mut [u8],
     figures: NearestFigures,
-    deviation: u64,
+    worst_step: u64,
     check: &[u8],
     nearest: &[u16],
     even: &[u16],
 ) -> usize
     requires { ⌜ LinesFit (now buffer) (now check) (now nearest) (now even) ⌝ }
-    ensures { λ r. ⌜ Put (linesOf figures deviation (now (check .entry)) (now (nearest .entry)) (now (even .entry))) (now (buffer .entry)) (now (buffer .exit)) 0 r ⌝ }
+    ensures { λ r. ⌜ Put (linesOf figures «worst_step» (now (check .entry)) (now (nearest .entry)) (now (even .entry))) (now (buffer .entry)) (now (buffer .exit)) 0 r ⌝ }
 {
     let indices = figures.indices;
     let mark = figures.mark;
-    let room = put_range(buffer, 0, indices);
-    let worst = put_room(buffer, room, mark);
-    let judged = put_even(buffer, worst, deviation);
-    let table = put_text(buffer, judged, check);
-    put_rows(buffer, table, nearest, even)
+    let after_range = put_range(buffer, 0, indices);
+    let after_room = put_room(buffer, after_range, mark);
+    let after_even = put_even(buffer, after_room, worst_step);
+    let after_check = put_text(buffer, after_even, check);
+    put_rows(buffer, after_check, nearest, even)
 }
 
 // The check of a job that has both tables, then its report.
@@ -172,17 +172,17 @@ fn after_even(
     requires { ⌜ ReportFits (now buffer) (now nearest) × (length (now even) ≡ 256) ⌝ }
     ensures { λ r. ⌜ Put (reportBy (near·Made figures) (even·Made made) (checkAnswer (now (bytes .entry)) 17) (now (nearest .entry)) (now (even .entry))) (now (buffer .entry)) (now (buffer .exit)) 0 r ⌝ }
 {
-    let deviation = made.worst;
+    let worst_step = made.worst;
     let mut deviations = [0i32; 17];
     let answer = engine::contrast_check(bytes, &mut deviations);
     match answer {
         CheckAnswer::Refused(r) => put_refusal(buffer, r),
         CheckAnswer::NotMeasured => {
-            put_lines(buffer, figures, deviation, b"check none\n", nearest, even)
+            put_lines(buffer, figures, worst_step, b"check none\n", nearest, even)
         }
         CheckAnswer::Judged(verdict) => match verdict {
-            Verdict::Pass => put_lines(buffer, figures, deviation, b"check pass\n", nearest, even),
-            Verdict::Fail => put_lines(buffer, figures, deviation, b"check fail\n", nearest, even),
+            Verdict::Pass => put_lines(buffer, figures, worst_step, b"check pass\n", nearest, even),
+            Verdict::Fail => put_lines(buffer, figures, worst_step, b"check fail\n", nearest, even),
         },
     }
 }
@@ -197,7 +197,7 @@ fn after_nearest(
 ) -> usize
     requires { ⌜ ReportFits (now buffer) (now nearest) ⌝ }
     ensures { λ r. ⌜ Put (reportBy (near·Made figures) (evenAnswer (now (bytes .entry)) 256 (length (now (work .entry)))) (checkAnswer (now (bytes .entry)) 17) (now (nearest .entry)) (evenLent (now (bytes .entry)) entries (length (now (work .entry))))) (now (buffer .entry)) (now (buffer .exit)) 0 r ⌝ }
-    ensures { λ _. ⌜ WordsKept (now (work .entry)) (now (work .exit)) ⌝ }
+    ensures { λ _. ⌜ WordsKept (now (bytes .entry)) (now (work .entry)) (now (work .exit)) ⌝ }
 {
     let mut even = [0u16; 256];
     let answer = engine::even_table(bytes, &mut even, work);
@@ -216,7 +216,7 @@ pub struct Report {
 // The report on a job record; the words lent are what the even table works in.
 pub fn report_on(bytes: &[u8], work: &mut [u32]) -> Report
     ensures { λ r. ⌜ ReportPromise (now (bytes .entry)) (now (work .entry)) (r .text) (r .size) ⌝ }
-    ensures { λ _. ⌜ WordsKept (now (work .entry)) (now (work .exit)) ⌝ }
+    ensures { λ _. ⌜ WordsKept (now (bytes .entry)) (now (work .entry)) (now (work .exit)) ⌝ }
 {
     let mut text = [0u8; 4694];
     let mut nearest = [0u16; 256];

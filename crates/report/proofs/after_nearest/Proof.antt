@@ -51,7 +51,11 @@ returns : tie.Need-returns
 unfolding entries
 returns c = (
   rw (sym (c .before .before .before .before .before .before .before .before .before .before .even-table .ensures .answers) ∙ c .before .before .before .before .before .answer .given .1) (c .before .before .put-refusal .ensures),
-  record { size = c .before .before .before .before .before .before .before .before .before .before .even-table .ensures .words-size; later = c .before .before .before .before .before .before .before .before .before .before .even-table .ensures .words-later },
+  record {
+    size = c .before .before .before .before .before .before .before .before .before .before .even-table .ensures .words-size;
+    later = c .before .before .before .before .before .before .before .before .before .before .even-table .ensures .words-later;
+    refused = λ h. c .before .before .before .before .before .before .before .before .before .before .even-table .ensures .words-refused (c .before .before .before .before .before .before .before .before .before .before .even-table .ensures .answers ∙ h);
+  },
 )
 
 -- src/lib.rt:191:1
@@ -67,7 +71,11 @@ returns-2 : tie.Need-returns-2
 unfolding entries
 returns-2 c = (
   rw (sym (c .before .before .before .before .before .before .before .before .before .before .before .even-table .ensures .answers) ∙ c .before .before .before .before .before .before .answer2 .given .1, ← c .before .before .before .before .before .before .before .before .before .before .before .even-table .ensures .table) (c .before .before .after-even .ensures),
-  record { size = c .before .before .before .before .before .before .before .before .before .before .before .even-table .ensures .words-size; later = c .before .before .before .before .before .before .before .before .before .before .before .even-table .ensures .words-later },
+  record {
+    size = c .before .before .before .before .before .before .before .before .before .before .before .even-table .ensures .words-size;
+    later = c .before .before .before .before .before .before .before .before .before .before .before .even-table .ensures .words-later;
+    refused = λ h. c .before .before .before .before .before .before .before .before .before .before .before .even-table .ensures .words-refused (c .before .before .before .before .before .before .before .before .before .before .before .even-table .ensures .answers ∙ h);
+  },
 )
 
 pub after-nearest-spec : {M : Type 1} → statement M

@@ -20,7 +20,7 @@ put-text-requires c κs = search needs
 
 -- src/lib.rt:117:5
 put-number-requires : tie.Need-put-number-requires
-put-number-requires c κs = omega (arith, c .before .before .before .before .before .before .before .pre, digits-64 (c .before .before .before .before .before .before .before .fits .deviation), c .before .before .before .put-text .ensures .ends, c .before .before .before .put-text .ensures .size)
+put-number-requires c κs = omega (arith, c .before .before .before .before .before .before .before .pre, digits-64 (c .before .before .before .before .before .before .before .fits .worst-step), c .before .before .before .put-text .ensures .ends, c .before .before .before .put-text .ensures .size)
 
 -- src/lib.rt:112:1
 same-length : tie.Need-same-length
@@ -30,8 +30,8 @@ same-length c = search needs
 returns : tie.Need-returns
 unfolding text
 returns c = (
-  then-number _ (c .before .before .before .before .before .before .before .before .before .before .args .deviation) 10 (c .before .before .before .before .before .before .put-text .ensures) (c .before .before .put-number .ensures),
-  omega (arith, digits-64 (c .before .before .before .before .before .before .before .before .before .before .fits .deviation), c .before .before .before .before .before .before .put-text .ensures .ends, number-ends (c .before .before .before .before .before .before .before .before .before .before .args .deviation) 10 (c .before .before .put-number .ensures)),
+  then-number _ (c .before .before .before .before .before .before .before .before .before .before .args .worst-step) 10 (c .before .before .before .before .before .before .put-text .ensures) (c .before .before .put-number .ensures),
+  omega (arith, digits-64 (c .before .before .before .before .before .before .before .before .before .before .fits .worst-step), c .before .before .before .before .before .before .put-text .ensures .ends, number-ends (c .before .before .before .before .before .before .before .before .before .before .args .worst-step) 10 (c .before .before .put-number .ensures)),
 )
 
 pub put-even-spec : {M : Type 1} → statement M

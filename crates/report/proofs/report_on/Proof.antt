@@ -56,7 +56,7 @@ returns c = (
   reported
       (report-refused (now (c .before .before .before .before .before .before .before .before .before .before .before .args .bytes)) (length (now (c .before .before .before .before .before .before .before .before .before .before .before .args .work))) (sym (c .before .before .before .before .before .before .before .nearest-table .ensures .answers) ∙ c .before .before .before .before .answer .given .1))
       (c .before .put-refusal .ensures),
-  record { size = refl; later = λ i h. refl },
+  record { size = refl; later = λ i h. refl; refused = λ h. refl },
 )
 
 -- src/lib.rt:217:1
