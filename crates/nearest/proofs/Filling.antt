@@ -24,13 +24,13 @@ abbrev entryError : (curve targets : List ℕ) (p : ℕ) → ℕ
 entryError curve targets p = errorAt curve (getD targets p 0) (entry curve targets p)
 
 -- the first p entries are filled, and the place is not past any later target
-pub record Filling (curve targets before table : List ℕ) (largest below above p : ℕ) : Type 0 where
+pub record Filling (curve targets before table : List ℕ) (largest below dark above p : ℕ) : Type 0 where
   pub inside : p ≤ length targets
   pub table-is : table ≡ tab (entry curve targets) p ++ drop p before
   pub largest-is : largest ≡ maxOf (entryError curve targets) p
-  pub ahead : (q : ℕ) → p ≤ q → q < length targets → NotPast curve (getD targets q 0) below above
+  pub ahead : (q : ℕ) → p ≤ q → q < length targets → NotPast curve (getD targets q 0) below dark above
 
-pub filling-none : (curve targets before : List ℕ) → Filling curve targets before before 0 0 0 0
+pub filling-none : (curve targets before : List ℕ) → Filling curve targets before before 0 0 (getD curve 0 0) 0 0
 unfolding tab maxOf
 filling-none curve targets before = record {
   inside = omega arith;
@@ -39,15 +39,15 @@ filling-none curve targets before = record {
   ahead = λ q a b. at-start curve (getD targets q 0);
 }
 
-module _ {curve targets before table : List ℕ} {largest below above p : ℕ} (h : Filling curve targets before table largest below above p)
+module _ {curve targets before table : List ℕ} {largest below dark above p : ℕ} (h : Filling curve targets before table largest below dark above p)
     (asked : Fillable curve targets before) where
   pub filling-length : length table ≡ length before
   filling-length =
       ap length (h .table-is)
       ∙ length-front before (tab (entry curve targets) p) p (length-tab (entry curve targets) p ∙ sym (length-take-le p before (omega arith)))
 
-  pub filling-more : {level error below' above' : ℕ} → p < length targets → EntryOf curve (getD targets p 0) level error below' above'
-      → (largest' : ℕ) → largest' ≡ max largest error → Filling curve targets before (set table p level) largest' below' above' (p + 1)
+  pub filling-more : {level error below' dark' above' : ℕ} → p < length targets → EntryOf curve (getD targets p 0) level error below' dark' above'
+      → (largest' : ℕ) → largest' ≡ max largest error → Filling curve targets before (set table p level) largest' below' dark' above' (p + 1)
   filling-more more m largest' e = record {
     inside = omega arith;
     table-is = rw (h .table-is, m .level-is) (fill (entry curve targets) before p (omega arith));

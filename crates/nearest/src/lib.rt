@@ -12,6 +12,8 @@ use units::Luminance;
 struct Place {
     // The lowest level as bright as the last one that is darker than the target; 0 where none is darker.
     below: usize,
+    // The luminance of that level.
+    dark: Luminance,
     // How many levels are darker than the target: so the first that is not, where there is one.
     above: usize,
 }
@@ -21,6 +23,7 @@ struct Entry {
     level: Ddl,
     error: Luminance,
     below: usize,
+    dark: Luminance,
     above: usize,
 }
 
@@ -44,16 +47,26 @@ fn larger(a: Luminance, b: Luminance) -> Luminance
 }
 
 // The place of a target, from one that is not past it.
-fn advance(curve: &[u32], target: Luminance, mut below: usize, mut above: usize) -> Place
-    requires { ⌜ Walkable (now curve) × NotPast (now curve) (target .0) below above ⌝ }
-    ensures { λ r. ⌜ PlaceOf (now (curve .entry)) (target .0) (r .below) (r .above) ⌝ }
+fn advance(
+    curve: &[u32],
+    target: Luminance,
+    mut below: usize,
+    dark: Luminance,
+    mut above: usize,
+) -> Place
+    requires { ⌜ Walkable (now curve) × NotPast (now curve) (target .0) below (dark .0) above ⌝ }
+    ensures { λ r. ⌜ PlaceOf (now (curve .entry)) (target .0) (r .below) (r .dark .0) (r .above) ⌝ }
 {
     let t = target.0;
-    let mut last = curve[below];
+    let mut last = dark.0;
     while above < curve.len() {
         let here = curve[above];
         if t <= here {
-            return Place { below, above };
+            return Place {
+                below,
+                dark: Luminance(last),
+                above,
+            };
         }
         if last < here {
             below = above;
@@ -61,18 +74,21 @@ fn advance(curve: &[u32], target: Luminance, mut below: usize, mut above: usize)
         last = here;
         above += 1;
     }
-    Place { below, above }
+    Place {
+        below,
+        dark: Luminance(last),
+        above,
+    }
 }
 
 // The entry of a target, from its place: the upper level only where it is nearer, so the lower on a tie.
-fn choose(curve: &[u32], target: Luminance, below: usize, above: usize) -> Entry
-    requires { ⌜ Walkable (now curve) × PlaceOf (now curve) (target .0) below above ⌝ }
-    ensures { λ r. ⌜ EntryOf (now (curve .entry)) (target .0) (r .level .0) (r .error .0) (r .below) (r .above) ⌝ }
+fn choose(curve: &[u32], target: Luminance, below: usize, dark: Luminance, above: usize) -> Entry
+    requires { ⌜ Walkable (now curve) × PlaceOf (now curve) (target .0) below (dark .0) above ⌝ }
+    ensures { λ r. ⌜ EntryOf (now (curve .entry)) (target .0) (r .level .0) (r .error .0) (r .below) (r .dark .0) (r .above) ⌝ }
 {
     let t = target.0;
-    let low = curve[below];
     let mut nearest = below;
-    let mut error = difference(Luminance(low), target);
+    let mut error = difference(dark, target);
     if above < curve.len() {
         let upper = curve[above] - t;
         if upper < error.0 {
@@ -85,17 +101,24 @@ fn choose(curve: &[u32], target: Luminance, below: usize, above: usize) -> Entry
         level: Ddl(level),
         error,
         below,
+        dark,
         above,
     }
 }
 
 // The work on one P-value, from a place that is not past its target.
-fn next_entry(curve: &[u32], target: Luminance, below: usize, above: usize) -> Entry
-    requires { ⌜ Walkable (now curve) × NotPast (now curve) (target .0) below above ⌝ }
-    ensures { λ r. ⌜ EntryOf (now (curve .entry)) (target .0) (r .level .0) (r .error .0) (r .below) (r .above) ⌝ }
+fn next_entry(
+    curve: &[u32],
+    target: Luminance,
+    below: usize,
+    dark: Luminance,
+    above: usize,
+) -> Entry
+    requires { ⌜ Walkable (now curve) × NotPast (now curve) (target .0) below (dark .0) above ⌝ }
+    ensures { λ r. ⌜ EntryOf (now (curve .entry)) (target .0) (r .level .0) (r .error .0) (r .below) (r .dark .0) (r .above) ⌝ }
 {
-    let place = advance(curve, target, below, above);
-    choose(curve, target, place.below, place.above)
+    let place = advance(curve, target, below, dark, above);
+    choose(curve, target, place.below, place.dark, place.above)
 }
 
 // Fills the front of `table` with the nearest level of each target, and returns the largest |F(d) − t(P)|.
@@ -103,16 +126,19 @@ pub fn fill_table(curve: &[u32], targets: &[u32], table: &mut [u16]) -> Luminanc
     requires { ⌜ Fillable (now curve) (now targets) (now table) ⌝ }
     ensures { λ r. ⌜ Filled (now (curve .entry)) (now (targets .entry)) (now (table .entry)) (now (table .exit)) (r .0) ⌝ }
 {
+    let black = curve[0];
     let mut largest = Luminance(0);
     let mut below: usize = 0;
+    let mut dark = Luminance(black);
     let mut above: usize = 0;
     let mut p: usize = 0;
     while p < targets.len() {
         let target = targets[p];
-        let entry = next_entry(curve, Luminance(target), below, above);
+        let entry = next_entry(curve, Luminance(target), below, dark, above);
         table[p] = entry.level.0;
         largest = larger(largest, entry.error);
         below = entry.below;
+        dark = entry.dark;
         above = entry.above;
         p += 1;
     }

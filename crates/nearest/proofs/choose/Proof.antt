@@ -10,12 +10,6 @@ use Rattle.nearest.proofs.Places.{entry-below, entry-above}
 use Rattle.nearest.proofs.choose.Statement.{statement}
 use Rattle.nearest.proofs.choose.Tie as tie
 
-mul-low : tie.Need-mul-low
-mul-low c = search needs
-
-shared-slice-read-low : tie.Need-shared-slice-read-low
-shared-slice-read-low c = search needs
-
 difference-requires : tie.Need-difference-requires
 difference-requires c κs = search needs
 
@@ -26,19 +20,20 @@ shared-slice-read-upper : tie.Need-shared-slice-read-upper
 shared-slice-read-upper c = search needs
 
 sub-upper : tie.Need-sub-upper
-sub-upper c = c .before .before .before .before .before .pre .1 .over _ (le-refl _) (omega arith)
+sub-upper c = c .before .before .before .before .pre .1 .over _ (le-refl _) (omega arith)
 
 -- where the ways meet
 chosen : (c : tie.Joined1)
     → EntryOf
-    (now (c .before .before .before .before .args .curve))
-    (c .before .before .before .before .args .target .0)
+    (now (c .before .before .before .args .curve))
+    (c .before .before .before .args .target .0)
     (c .if1 .nearest)
     (c .if1 .error .0)
-    (c .before .before .before .before .args .below)
-    (c .before .before .before .before .args .above)
+    (c .before .before .before .args .below)
+    (c .before .before .before .args .dark .0)
+    (c .before .before .before .args .above)
 chosen c =
-    let (walkable, place) = c .before .before .before .before .pre in
+    let (walkable, place) = c .before .before .before .pre in
     let lower = c .before .difference .ensures in
     ⊎-elim
     (λ w. rw (w .4, w .5) (entry-above walkable place _ lower (omega arith) (omega arith)))
@@ -49,7 +44,7 @@ chosen c =
 
 cast-level : tie.Need-cast-level
 cast-level c =
-    let start = c .before .before .before .before .before in
+    let start = c .before .before .before .before in
     let inside = nearest-inside (now (start .args .curve)) (start .args .target .0) (start .pre .0 .some) in
     omega (arith, chosen (c .before), start .pre .0)
 
@@ -60,8 +55,6 @@ pub choose-spec : {M : Type 1} → statement M
 choose-spec =
     tie.close
     (tie.spec
-    mul-low
-    shared-slice-read-low
     difference-requires
     mul-upper
     shared-slice-read-upper
