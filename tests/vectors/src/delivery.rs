@@ -52,7 +52,7 @@ fn file_of(bytes: &[u8]) -> File {
 }
 
 /// The program's answer to a file from a place on, and where it leaves the file: at its end, or no further than the program's buffer is long.
-fn file_fault(engine: &Engine, program: &Program, bytes: &[u8], place: usize) -> Option<String> {
+pub fn file_fault(engine: &Engine, program: &Program, bytes: &[u8], place: usize) -> Option<String> {
     let mut file = file_of(bytes);
     file.seek(SeekFrom::Start(place as u64)).expect("a file has places");
     let run = program.run(Input::File(file.try_clone().expect("a file can be handed on")));

@@ -2,7 +2,8 @@
 use reference::engine::Engine;
 use reference::report::{report, BUFFER};
 
-use crate::jobs::{full, longest};
+use crate::jobs::{changed, checked_but_for, full, longest, small};
+use crate::refused::{with_count, SECTIONS};
 
 pub struct Case {
     pub name: String,
@@ -20,6 +21,43 @@ fn case(engine: &Engine, name: String, bytes: Vec<u8>) -> Case {
 pub fn prefixes(engine: &Engine) -> Vec<Case> {
     let bytes = full(engine).bytes();
     (0..=bytes.len()).map(|length| case(engine, format!("prefix of {length} bytes"), bytes[..length].to_vec())).collect()
+}
+
+/// The job with every small count in place of each of its own.
+pub fn counts(engine: &Engine) -> Vec<Case> {
+    let counts = (0..SECTIONS.len()).flat_map(|section| (0..20).map(move |count| (section, count)));
+    let named = |(section, count)| (format!("a count of {count} for section '{}'", SECTIONS[section]), with_count(engine, section, count));
+    counts.map(named).map(|(name, bytes)| case(engine, name, bytes)).collect()
+}
+
+/// What the program must find wherever it stands: a pair of patches off by itself, a patch outside Table B-1, a lamp too bright, levels and luminances of a long sweep
+/// that fall.
+pub fn each_place(engine: &Engine) -> Vec<Case> {
+    let mut cases = vec![];
+    for (pair, thousandths) in (0..17).flat_map(|pair| [(pair, 80), (pair, -80)]) {
+        let record = checked_but_for(small(), engine, pair, thousandths);
+        cases.push(case(engine, format!("pair {pair} of patches alone off by {thousandths}"), record.bytes()));
+    }
+    for place in 0..18 {
+        for luminance in [0, u64::from(u32::MAX)] {
+            let record = changed(full(engine), |record| record.check[place] = luminance);
+            cases.push(case(engine, format!("patch {place} of {luminance}"), record.bytes()));
+        }
+    }
+    let longest = longest(engine);
+    for place in 0..8 {
+        let record = changed(longest.clone(), |record| record.lamps[place] = 2_001);
+        cases.push(case(engine, format!("lamp {place} of 2,001"), record.bytes()));
+    }
+    let short = full(engine);
+    for (record, place) in (1..4).map(|place| (&short, place)).chain((1..1_024).rev().step_by(73).map(|place| (&longest, place))) {
+        let of = record.ddls.len();
+        let equal = changed(record.clone(), |record| record.ddls[place] = record.ddls[place - 1]);
+        cases.push(case(engine, format!("level {place} of {of} as the one before"), equal.bytes()));
+        let falling = changed(record.clone(), |record| record.luminances[place] = record.luminances[place - 1] - 1);
+        cases.push(case(engine, format!("reading {place} of {of} below the one before"), falling.bytes()));
+    }
+    cases
 }
 
 /// Bytes from a small generator (a linear congruence modulo 2^64, of which the high bits are taken).

@@ -45,6 +45,15 @@ pub fn display(depth: u64, readings: u64, black: u64, white: u64) -> Record {
     Record { settings: vec![depth, CONTACT, PRIMARY, 60, 100], ddls, luminances, ..small() }
 }
 
+/// A display from index 20,000 to 80,000 whose levels, with the light of these lamps, are its targets.
+pub fn exactly(engine: &Engine, depth: u64, lamps: &[u64], error: u64) -> Record {
+    let targets = Range { jlo: 20_000, jhi: 80_000 }.targets(&engine.gsdf, 255);
+    let ddls = levels(depth, 1 << depth);
+    let added = 60 * lamps.iter().sum::<u64>();
+    let luminances = ddls.iter().map(|&ddl| targets[(ddl * 255 / ((1 << depth) - 1)) as usize] - added).collect();
+    Record { settings: vec![depth, CONTACT, PRIMARY, 60, error], lamps: lamps.to_vec(), ddls, luminances, check: vec![] }
+}
+
 /// The job with the patches that a screen shows which follows the display function from its black to its white.
 pub fn checked(record: Record, engine: &Engine) -> Record {
     let curve = curve::curve(&record);
@@ -58,6 +67,32 @@ pub fn checked_off_by(record: Record, engine: &Engine, thousandths: u64) -> Reco
     let mut record = checked(record, engine);
     (1..17).step_by(2).for_each(|i| record.check[i] += record.check[i] * thousandths / 1_000);
     record
+}
+
+/// The job with one pair of patches so many thousandths too far apart, and all others too near by a sixteenth of it.
+pub fn checked_but_for(record: Record, engine: &Engine, pair: usize, thousandths: i64) -> Record {
+    let mut record = checked(record, engine);
+    for i in 1..17 {
+        let sixteenths = if i <= pair { -(i as i64) } else { 17 - i as i64 };
+        let patch = record.check[i] as i64;
+        record.check[i] = (patch + patch * thousandths * sixteenths / 16_000) as u64;
+    }
+    record
+}
+
+/// A job whose check passes with nothing to spare: one pair of patches is as far apart, or as near, as the class permits.
+pub fn at_limit(engine: &Engine, class: u64, wide: bool) -> (Record, usize) {
+    // Both patches move by this part of their difference, so that their sum stays and the difference changes by 10 % or 20 %.
+    let part = if class == PRIMARY { 20 } else { 10 };
+    let job = |white| checked(Record { settings: vec![8, CONTACT, class, 60, 400], luminances: vec![10_000, white], ..small() }, engine);
+    let pair_of = |record: &Record| (1..16).find(|&i| (record.check[i + 1] - record.check[i]) % part == 0);
+    let found = (2_560_000..).map(job).find_map(|record| pair_of(&record).map(|pair| (record, pair)));
+    let (mut record, pair) = found.expect("some white has such a pair");
+    let moved = (record.check[pair + 1] - record.check[pair]) / part;
+    let (darker, brighter) = (record.check[pair], record.check[pair + 1]);
+    (record.check[pair], record.check[pair + 1]) =
+        if wide { (darker - moved, brighter + moved) } else { (darker + moved, brighter - moved) };
+    (record, pair)
 }
 
 /// The longest record: every level of 10 bits, 8 lamps and a check.

@@ -9,6 +9,7 @@ use std::process::exit;
 use reference::engine::Engine;
 
 mod delivery;
+mod faulty;
 mod inputs;
 mod jobs;
 mod program;

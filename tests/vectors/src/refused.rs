@@ -2,13 +2,13 @@
 use reference::engine::Engine;
 use reference::record::Record;
 
-use crate::jobs::{changed, checked, count_places, full, longest, small, TELESCOPIC};
+use crate::jobs::{changed, checked, count_places, exactly, full, longest, small, TELESCOPIC};
 use crate::vector::Vector;
 
 /// A number, a name, what it is, and what is changed in a job.
 type Fault = (u32, &'static str, &'static str, fn(&mut Record));
 
-const SECTIONS: [&str; 4] = ["settings", "lamps", "sweep", "check"];
+pub const SECTIONS: [&str; 4] = ["settings", "lamps", "sweep", "check"];
 
 /// Under 2: each count cut short, and the items of each section.
 fn cut_short(engine: &Engine) -> Vec<Vector> {
@@ -30,11 +30,19 @@ fn cut_short(engine: &Engine) -> Vec<Vector> {
 }
 
 /// A full record with another count for a section.
-fn with_count(engine: &Engine, section: usize, count: u16) -> Vec<u8> {
+pub fn with_count(engine: &Engine, section: usize, count: u16) -> Vec<u8> {
     let record = full(engine);
     let mut bytes = record.bytes();
     let place = count_places(&record)[section];
     bytes[place..place + 2].copy_from_slice(&count.to_le_bytes());
+    bytes
+}
+
+/// A full record with the highest bit set in the count of a section.
+fn with_high_bit(engine: &Engine, section: usize) -> Vec<u8> {
+    let record = full(engine);
+    let mut bytes = record.bytes();
+    bytes[count_places(&record)[section] + 1] |= 1 << 7;
     bytes
 }
 
@@ -63,6 +71,8 @@ fn counts(engine: &Engine) -> Vec<Vector> {
     for (section, name) in SECTIONS.iter().enumerate() {
         let about = format!("the largest count for section '{name}'");
         vectors.push(refused(&format!("{name}-65535"), &about, &with_count(engine, section, u16::MAX)));
+        let about = format!("the count of section '{name}' with the highest bit set");
+        vectors.push(refused(&format!("{name}-high-bit"), &about, &with_high_bit(engine, section)));
     }
     vectors
 }
@@ -84,9 +94,12 @@ fn left_over(engine: &Engine) -> Vec<Vector> {
     ]
 }
 
+/// The highest bit of a field of 16 bits.
+const HIGH_BIT: u64 = 1 << 15;
+
 /// Under 5 to 7, what a full record must not hold.
 #[rustfmt::skip]
-const FAULTS: [Fault; 23] = [
+const FAULTS: [Fault; 31] = [
     (5, "depth-7", "depth 7", |record| record.settings[0] = 7),
     (5, "meter-2", "meter 2", |record| record.settings[1] = 2),
     (5, "class-0", "class 0", |record| record.settings[2] = 0),
@@ -96,6 +109,12 @@ const FAULTS: [Fault; 23] = [
     (5, "error-65535", "an allowed error of 65,535", |record| record.settings[4] = 65_535),
     (5, "first-lamp-2001", "a first lamp of 2,001 lux", |record| record.lamps[0] = 2_001),
     (5, "last-lamp-2001", "an eighth lamp of 2,001 lux", |record| record.lamps = vec![1, 2, 3, 4, 5, 6, 7, 2_001]),
+    (5, "depth-high-bit", "depth 8 with the highest bit set", |record| record.settings[0] |= HIGH_BIT),
+    (5, "meter-high-bit", "a contact meter with the highest bit set", |record| record.settings[1] |= HIGH_BIT),
+    (5, "class-high-bit", "primary class with the highest bit set", |record| record.settings[2] |= HIGH_BIT),
+    (5, "reflectance-high-bit", "a reflectance with the highest bit set", |record| record.settings[3] |= HIGH_BIT),
+    (5, "error-high-bit", "an allowed error with the highest bit set", |record| record.settings[4] |= HIGH_BIT),
+    (5, "lamp-high-bit", "a lamp with the highest bit set", |record| record.lamps[1] |= HIGH_BIT),
     (5, "and-6-and-7", "depth 11, levels from 1 and luminances that fall", |record| {
         record.settings[0] = 11;
         record.ddls[0] = 1;
@@ -111,6 +130,14 @@ const FAULTS: [Fault; 23] = [
     (6, "and-7", "levels from 1 and luminances that fall", |record| {
         record.ddls[0] = 1;
         record.luminances[1] = 0;
+    }),
+    (6, "after-7", "luminances that fall, and after them levels", |record| {
+        record.luminances[1] = 9_999;
+        record.ddls[2] = 100;
+    }),
+    (6, "to-254-and-7", "depth 8, levels to 254, and luminances that fall", |record| {
+        record.luminances[1] = 9_999;
+        record.ddls[3] = 254;
     }),
     (7, "first", "the second luminance below the first", |record| record.luminances[1] = 9_999),
     (7, "last", "the last luminance one unit below", |record| record.luminances[3] = 1_499_999),
@@ -160,6 +187,8 @@ fn ranges(engine: &Engine) -> Vec<Vector> {
             record.luminances[0] = 300;
         }),
         of(8, "and-9", "both ends outside Table B-1", &|record| record.luminances = vec![0, u64::from(u32::MAX)]),
+        of(8, "and-10", "a black below Table B-1 and a narrow range", &|record| record.luminances = vec![300, 400]),
+        of(9, "and-10", "a white above Table B-1 and a narrow range", &|record| record.luminances = vec![brightest, brightest + 1]),
         of(9, "one-above", "one unit above Table B-1", &|record| record.luminances[1] = brightest + 1),
         of(9, "by-room-light", "lifted above Table B-1 by the room light", &|record| {
             record.settings[3] = 1;
@@ -177,6 +206,20 @@ fn ranges(engine: &Engine) -> Vec<Vector> {
             record.luminances = vec![low, high];
             record.settings[4] = 0;
         }),
+    ]
+}
+
+/// Under 11: one level of 256 a unit further from its target than is allowed.
+fn errors(engine: &Engine) -> [Vector; 3] {
+    let target = exactly(engine, 8, &[], 0).luminances[128];
+    let of = |name, about, error, luminance| {
+        let record = changed(exactly(engine, 8, &[], error), |record| record.luminances[128] = luminance);
+        Vector::refused(11, name, about, record.bytes())
+    };
+    [
+        of("error-above", "a level one unit further above its target than is allowed", 1, target + target / 1_000 + 1),
+        of("error-below", "a level one unit further below its target than is allowed", 1, target - target / 1_000 - 1),
+        of("no-error", "a level one unit above its target, no error allowed", 0, target + 1),
     ]
 }
 
@@ -226,6 +269,7 @@ pub fn vectors(engine: &Engine) -> Vec<Vector> {
     vectors.extend(with_faults(&full(engine), &COUNTS));
     vectors.extend(with_faults(&full(engine), &FAULTS));
     vectors.extend(ranges(engine));
+    vectors.extend(errors(engine));
     vectors.extend(tables_and_checks(engine));
     vectors.sort_by_key(|vector| vector.name[.."refused-00".len()].to_string());
     vectors

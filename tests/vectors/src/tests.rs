@@ -6,7 +6,7 @@ use reference::engine::Engine;
 use reference::report::report;
 
 use crate::program::{Input, Program};
-use crate::{delivery, inputs, store};
+use crate::{delivery, faulty, inputs, store};
 
 #[derive(Default)]
 pub struct Results {
@@ -75,12 +75,13 @@ pub fn check(engine: &Engine, program: &str) -> Results {
     stored(engine, &mut results);
     stated(engine, &mut results);
     on_records(&program, &mut results);
-    for case in inputs::prefixes(engine).iter().chain(&inputs::long(engine)) {
+    for case in [inputs::prefixes, inputs::counts, inputs::each_place, inputs::long].iter().flat_map(|cases| cases(engine)) {
         results.count(&case.name, program.run(Input::piped(&case.bytes)).fault(&case.report));
     }
     delivery::in_pieces(engine, &program, &mut results);
     delivery::from_files(engine, &program, &mut results);
     delivery::from_nowhere(engine, &program, &mut results);
+    faulty::noticed(engine, &mut results);
     results
 }
 
