@@ -89,6 +89,13 @@ fn rooms(engine: &Engine) -> Vec<Vector> {
             "room low",
         ),
         unchecked(
+            "room-without-reflection",
+            "a lamp, and a reflectance of 0",
+            lit(CONTACT, 2_000, 0, [500, brightest]),
+            "range 102 102300 102198",
+            "room low",
+        ),
+        unchecked(
             "room-light-beside",
             "a telescopic meter, which gets no room light",
             lit(TELESCOPIC, 100, 1, [500, brightest]),
