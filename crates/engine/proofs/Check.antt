@@ -16,16 +16,15 @@ use Rattle.record.specs.declared.Refusal.the-variants.{LentTooShort}
 use Rattle.record.specs.declared.Job.{Job}
 use Rattle.record.specs.declared.JobRecord.{JobRecord}
 use Rattle.record.specs.declared.Answer.the-variants.{Accepted}
-use Rattle.engine.specs.Sound.{Soundness, unsound, soundness, addedOf}
-use Rattle.engine.specs.Preparing.{sweepTests}
+use Rattle.target.specs.declared.IndexRange.{IndexRange}
+use Rattle.engine.specs.Sound.{Soundness, unsound, soundness}
+use Rattle.engine.specs.Drawing.{PassedTests}
 use Rattle.engine.specs.Check.{checkAfter, checkAnswer, placesOver, checkLent, CheckPromise}
-use Rattle.engine.specs.Checking.{CheckFront, jobAnswer, jobPlaces, JobChecked}
-use Rattle.engine.specs.declared.Ranged.{Ranged}
-use Rattle.engine.specs.declared.Ranged.the-variants.{Wide, Fault}
+use Rattle.engine.specs.Checking.{CheckFront, JobChecked}
 use Rattle.engine.specs.declared.CheckAnswer.{CheckAnswer}
 use Rattle.engine.specs.declared.CheckAnswer.the-variants.{Refused}
-use Rattle.engine.proofs.Measuring.{climbs, faulted, kept}
-use Rattle.engine.proofs.Reading.{accepted, front-measurable, in-front, sound-as}
+use Rattle.engine.proofs.Measuring.{kept}
+use Rattle.engine.proofs.Reading.{measurable, accepted, sound-as}
 use Rattle.engine.proofs.CheckOutcomes.{promised}
 
 module _ (bytes : List ℕ) (before : List ℤ) where
@@ -44,21 +43,15 @@ module _ (bytes : List ℕ) (before : List ℤ) where
     check-back r e = ended e refl refl
 
     module _ {r : JobRecord} (h : ReadFrom bytes r) (job : Job) (e : r .answer ≡ Accepted job) where
-      pub check-front : length (r .check) ≡ 18 → CheckFront (r .luminances) (r .readings) (r .check) (r .patches)
+      pub check-front : length (r .check) ≡ 18 → CheckFront (r .check) (r .patches)
       check-front n = record {
-        luminances-fit = in-front h job e .luminances-fit;
-        climbs = climbs (front-measurable h job e);
         patches =
             let k = length (checkIn (sections bytes)) in
             ⊎-elim (λ z. inl (h .patches ∙ eqb-yes z)) (λ z. inr (h .patches ∙ eqb-yes z)) (or-yes (eqb k 0) (eqb k 18) (accepted h job e .patches));
         check-fits = n;
       }
 
-      pub check-made : {answer : CheckAnswer} {after : List ℤ} → JobChecked job (take (r .readings) (r .luminances)) (take (r .patches) (r .check)) answer before after
+      pub check-made : {indices : IndexRange} {answer : CheckAnswer} {after : List ℤ} → PassedTests bytes job indices → JobChecked job (take (r .patches) (r .check)) answer before after
           → CheckPromise bytes before after answer
-      check-made {answer = answer} {after = after} c = go (sweepTests (addedOf job) (take (r .readings) (r .luminances))) refl (rw (h .check) at (c .answers)) (rw (h .check) at (c .places))
-        where
-          go : (x : Ranged) → sweepTests (addedOf job) (take (r .readings) (r .luminances)) ≡ x → answer ≡ jobAnswer x job (checkIn (sections bytes))
-              → after ≡ jobPlaces x job (checkIn (sections bytes)) before → CheckPromise bytes before after answer
-          go (Fault f) t a p = ended (sound-as h job e ∙ faulted (front-measurable h job e) f t) a p
-          go (Wide indices) t a p = ended (sound-as h job e ∙ kept (front-measurable h job e) indices t) a p
+      check-made {indices = indices} p c =
+          ended (sound-as bytes job (p .accepted) ∙ kept (measurable (accepted h job e)) indices (p .wide)) (rw (h .check) at (c .answers)) (rw (h .check) at (c .places))

@@ -12,8 +12,6 @@ use Rattle.target.specs.declared.IndexRange.{IndexRange}
 use Rattle.contrast.specs.declared.Verdict.the-variants.{Pass, Fail}
 use Rattle.engine.specs.Sound.{SoundJob, sound, unsound}
 use Rattle.engine.specs.declared.Ranged.the-variants.{Wide, Fault}
-use Rattle.engine.specs.declared.Frame.{Frame}
-use Rattle.engine.specs.declared.Prepared.the-variants.{Ready, SentBack}
 use Rattle.engine.specs.declared.NearestFigures.{NearestFigures}
 use Rattle.engine.specs.declared.NearestAnswer.the-variants as nearest
 use Rattle.engine.specs.declared.EvenFigures.{EvenFigures}
@@ -33,9 +31,6 @@ wide-fault e = let z : _≡_ {A = ℕ} 0 1 = cc in omega arith
 
 pub sound-unsound : {job : SoundJob} {r : Refusal} → sound job ≡ unsound r → ⊥
 sound-unsound e = let z : _≡_ {A = ℕ} 0 1 = cc in omega arith
-
-pub ready-back : {f : Frame} {r : Refusal} → Ready f ≡ SentBack r → ⊥
-ready-back e = let z : _≡_ {A = ℕ} 0 1 = cc in omega arith
 
 pub made-refused : {figures : NearestFigures} {r : Refusal} → nearest.Made figures ≡ nearest.Refused r → ⊥
 made-refused e = let z : _≡_ {A = ℕ} 0 1 = cc in omega arith

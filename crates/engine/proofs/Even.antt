@@ -13,15 +13,17 @@ use Rattle.even.specs.Even.{Given}
 use Rattle.even.specs.Table.{noTable}
 use Rattle.even.specs.Filled.{given, outcomeOf, FillAsks, EvenFilled}
 use Rattle.even.specs.declared.Outcome.{Outcome}
-use Rattle.engine.specs.Sound.{unsound, soundness}
+use Rattle.engine.specs.Sound.{unsound, soundness, IsSound}
 use Rattle.engine.specs.Even.{givenBy, outcomeAnswer, tooLittle, evenAnswer, evenLent, Enough, EvenPromise}
+use Rattle.target.specs.declared.IndexRange.{IndexRange}
+use Rattle.engine.specs.Drawing.{Drawn}
 use Rattle.engine.specs.declared.Frame.{Frame}
 use Rattle.engine.specs.declared.EvenAnswer.{EvenAnswer}
 use Rattle.engine.specs.declared.EvenAnswer.the-variants.{Refused}
 use Rattle.engine.proofs.Clashes.{table-refused}
 use Rattle.engine.proofs.EvenTerms.{workable}
 use Rattle.engine.proofs.EvenOutcomes.{lent-enough, promised}
-use Rattle.engine.proofs.Ready.{Readied}
+use Rattle.engine.proofs.Soundness.{sound-job}
 
 -- an answer other than a table leaves all words as they were
 words-kept : (x : Given) {before after words wordsAfter : List ℕ} {outcome : Outcome} → EvenFilled x before after words wordsAfter outcome
@@ -48,7 +50,10 @@ module _ (bytes before words : List ℕ) where
     even-back r e =
         unchanged r (simp (long, e)) (simp (long, e))
 
-    module _ {f : Frame} {curve targets : List ℕ} (r : Readied (soundness bytes) f curve targets) where
+    module _ {indices : IndexRange} {f : Frame} {curve targets : List ℕ} (r : Drawn bytes indices f curve targets) where
+      known : IsSound (r .job)
+      known = sound-job bytes (r .job) (r .is)
+
       given-is : given (take (f .levels) curve) targets (f .tolerance) ≡ givenBy (r .job)
       given-is = rw (r .levels, r .values, r .tolerance)
 
@@ -56,12 +61,12 @@ module _ (bytes before words : List ℕ) where
           → FillAsks (given (take (f .levels) curve) targets (f .tolerance)) starts ends before words
       fill-asks starts ends n m = rw given-is (record {
         lent = record {
-          workable = workable (r .known);
-          entries-fit = omega (arith, r .known .values, enough .entries);
-          rows-fit = omega (arith, r .known .values, enough .words);
+          workable = workable (known);
+          entries-fit = omega (arith, known .values, enough .entries);
+          rows-fit = omega (arith, known .values, enough .words);
         };
-        starts-fit = omega (arith, r .known .values);
-        ends-fit = omega (arith, r .known .values);
+        starts-fit = omega (arith, known .values);
+        ends-fit = omega (arith, known .values);
       })
 
       pub even-filled : {after wordsAfter : List ℕ} {outcome : Outcome} {answer : EvenAnswer}
@@ -74,5 +79,5 @@ module _ (bytes before words : List ℕ) where
           (a ∙ ap outcomeAnswer (h .answers) ∙ simp (long, r .is))
           (h .table ∙ simp (long, r .is))
           (h .later-words .len)
-          (λ i l. h .later-words .words i (omega (arith, r .known .values)))
+          (λ i l. h .later-words .words i (omega (arith, known .values)))
           (λ q e. words-kept (givenBy (r .job)) h q (sym a ∙ e))

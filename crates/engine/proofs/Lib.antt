@@ -4,7 +4,7 @@ pub mod Tests
 pub mod Measuring
 pub mod Reading
 pub mod Soundness
-pub mod Ready
+pub mod Drawing
 pub mod Conditions
 pub mod NearestOutcomes
 pub mod Nearest

@@ -16,7 +16,7 @@ use Rattle.record.specs.declared.Refusal.{Refusal}
 use Rattle.record.specs.declared.Job.{Job}
 use Rattle.curve.specs.Room.{addedLuminance, roomMark}
 use Rattle.gsdf.specs.Ends.{belowTable, aboveTable}
-use Rattle.curve.specs.Curve.{curveAt, curveOf}
+use Rattle.curve.specs.Curve.{curveAt, curveOf, Sweep}
 use Rattle.curve.specs.Walk.{Drawable}
 use Rattle.curve.specs.declared.RoomMark.{RoomMark}
 use Rattle.gsdf.proofs.Ends.{not-below, not-above}
@@ -26,11 +26,10 @@ use Rattle.target.specs.declared.IndexRange.{IndexRange}
 use Rattle.target.proofs.Laws as target
 use Rattle.target.proofs.Ranges.{range-low, range-high, range-between}
 use Rattle.engine.specs.Sound.{SoundJob, Soundness, sound, unsound, roomOf, addedOf, topOf, rangeTests, measured}
-use Rattle.engine.specs.Preparing.{lightOf, sweepTests, Climbs, Measurable, Prepares}
+use Rattle.engine.specs.Drawing.{lightOf, sweepTests}
 use Rattle.engine.specs.declared.Light.{Light}
 use Rattle.engine.specs.declared.Ranged.{Ranged}
 use Rattle.engine.specs.declared.Ranged.the-variants.{Wide, Fault}
-use Rattle.engine.specs.declared.Prepared.the-variants.{Ready, SentBack}
 use Rattle.engine.proofs.Clashes.{wide-fault}
 
 -- what holds at each of the three depths
@@ -81,11 +80,18 @@ light-is job room added er ea =
     ap (λ (n : ℕ). record { room = record { 0 = n }; added = added }) er
     ∙ ap (λ (n : ℕ). record { room = record { 0 = roomOf job }; added = record { 0 = n } }) (ea ∙ ap (addedLuminance (job .settings .meter)) er)
 
--- the tests by the light that is worked out from the job
-pub tested : (job : Job) (luminances : List ℕ) (light : Light) (x : Ranged) → light ≡ lightOf job → sweepTests (light .added .0) luminances ≡ x → sweepTests (addedOf job) luminances ≡ x
-tested job luminances light x el t = sym (ap (λ (l : Light). sweepTests (l .added .0) luminances) el) ∙ t
-
 -- ---- an accepted job and its sweep
+
+-- a job whose depth is in range, and its sweep
+pub record Measurable (job : Job) (ddls luminances : List ℕ) : Type 0 where
+  pub depth-low : 8 ≤ job .settings .depth
+  pub depth-high : job .settings .depth ≤ 10
+  pub sweep : Sweep ddls luminances (topOf job)
+
+-- the luminances of a sweep: its last reading is not below its first
+pub record Climbs (luminances : List ℕ) : Type 0 where
+  pub some : 1 ≤ length luminances
+  pub order : getD luminances 0 0 ≤ getD luminances (length luminances - 1) 0
 
 module _ {job : Job} {ddls luminances : List ℕ} (m : Measurable job ddls luminances) where
   pub climbs : Climbs luminances
@@ -147,20 +153,3 @@ module _ {job : Job} {ddls luminances : List ℕ} (m : Measurable job ddls lumin
         levels = omega (arith, top-fits);
         fits = omega (arith, top-fits);
       })
-
-      pub ready : (mark : RoomMark) (curve₀ curve₁ targets₀ targets₁ : List ℕ) → mark ≡ roomMark (light .room .0) (getD luminances 0 0)
-          → curve₁ ≡ curveOf (light .added .0) ddls luminances top ++ drop (top + 1) curve₀
-          → targets₁ ≡ targetsOf (indices .low .0) (indices .range .0) 255 ++ drop 256 targets₀
-          → Prepares (measured job ddls luminances) (Ready (record { levels = top + 1; indices = indices; mark = mark; tolerance = job .settings .tolerance })) curve₀ curve₁ targets₀ targets₁
-      ready mark curve₀ curve₁ targets₀ targets₁ em ec ea =
-          let lc : length (curveOf (addedOf job) ddls luminances (topOf job)) ≡ topOf job + 1 = curve.curve-length (m .sweep) (addedOf job) in
-          let lt : length (targetsOf (indices .low .0) (indices .range .0) 255) ≡ 256 = target.targets-length (indices .low .0) (indices .range .0) 255 in
-          let em′ : mark ≡ roomMark (roomOf job) (getD luminances 0 0) = em ∙ ap (λ (x : Light). roomMark (x .room .0) (getD luminances 0 0)) el in
-          let ec′ : curve₁ ≡ curveOf (addedOf job) ddls luminances (topOf job) ++ drop (topOf job + 1) curve₀ =
-          ec ∙ ap (λ (x : Light). curveOf (x .added .0) ddls luminances top ++ drop (top + 1) curve₀) el
-          ∙ ap (λ (t : ℕ). curveOf (addedOf job) ddls luminances t ++ drop (t + 1) curve₀) et in
-          rw kept (record { answers = rw (lc, em′, et); curve = rw lc ec′; targets = rw lt ea })
-
--- nothing is written for a job that is sent back
-pub nothing-written : (x : Soundness) (r : Refusal) (curve targets : List ℕ) → x ≡ unsound r → Prepares x (SentBack r) curve curve targets targets
-nothing-written x r curve targets e = rw e (record { answers = refl; curve = refl; targets = refl })

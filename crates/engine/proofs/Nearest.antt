@@ -15,10 +15,12 @@ use Rattle.units.specs.declared.Luminance.{Luminance}
 use Rattle.nearest.specs.Nearest.{Fillable, Filled, nearestTable, largestError}
 use Rattle.engine.specs.Sound.{SoundJob, unsound, soundness, IsSound}
 use Rattle.engine.specs.Nearest.{nearestAnswer, nearestLent, NearestPromise}
+use Rattle.target.specs.declared.IndexRange.{IndexRange}
+use Rattle.engine.specs.Drawing.{Drawn}
 use Rattle.engine.specs.declared.Frame.{Frame}
 use Rattle.engine.specs.declared.NearestAnswer.the-variants.{Made, Refused}
 use Rattle.engine.proofs.NearestOutcomes.{promised}
-use Rattle.engine.proofs.Ready.{Readied}
+use Rattle.engine.proofs.Soundness.{sound-job}
 
 -- targets that rise never fall
 pub targets-keep : {job : SoundJob} → IsSound job → NeverFalls (job .targets)
@@ -36,24 +38,27 @@ module _ (bytes before : List ℕ) where
     unfolding nearestAnswer nearestLent
     back r e = promised bytes before before (Refused r) (simp (le-ltb _ _ long, e)) (simp (le-ltb _ _ long, e))
 
-    module _ {f : Frame} {curve targets : List ℕ} (r : Readied (soundness bytes) f curve targets) where
+    module _ {indices : IndexRange} {f : Frame} {curve targets : List ℕ} (r : Drawn bytes indices f curve targets) where
+      known : IsSound (r .job)
+      known = sound-job bytes (r .job) (r .is)
+
       pub fillable : Fillable (take (f .levels) curve) targets before
       fillable = rw (r .levels, r .values) (record {
         walkable = record {
-          some = omega (arith, r .known .levels-low);
-          levels = omega (arith, r .known .levels-high);
-          never-falls = r .known .curve-keeps;
+          some = omega (arith, known .levels-low);
+          levels = omega (arith, known .levels-high);
+          never-falls = known .curve-keeps;
         };
-        targets-keep = targets-keep (r .known);
-        fits = omega (arith, r .known .values);
+        targets-keep = targets-keep (known);
+        fits = omega (arith, known .values);
       })
 
       pub filled : (after : List ℕ) (error : Luminance) → Filled (take (f .levels) curve) targets before after (error .0)
-          → NearestPromise bytes before after (Made (record { indices = f .indices; mark = f .mark; error = error }))
+          → NearestPromise bytes before after (Made (record { indices = indices; mark = f .mark; error = error }))
       unfolding nearestAnswer nearestLent
       filled after error h =
           let t : after ≡ nearestTable (r .job .curve) (r .job .targets) ++ drop (length (r .job .targets)) before =
           h .table ∙ rw (r .levels, r .values) in
           let l : error .0 ≡ largestError (r .job .curve) (r .job .targets) (nearestTable (r .job .curve) (r .job .targets)) =
           h .largest ∙ rw (r .levels, r .values) in
-          promised bytes before after _ (simp (le-ltb _ _ long, r .is) (rw (r .indices, r .mark, sym l))) (simp (le-ltb _ _ long, r .is) t)
+          promised bytes before after _ (simp (le-ltb _ _ long, r .is) (rw (r .range, r .mark, sym l))) (simp (le-ltb _ _ long, r .is) t)

@@ -2,10 +2,10 @@
 -- Assumes nothing.
 use mathlib.Core.Path.{_≡_, sym, _∙_}
 use mathlib.Core.List.{List}
-use Prim.Native.Nat.{ℕ}
+use Prim.Native.Nat.{ℕ, _+_, _≤_}
 use native.Mathlib.Numerals.{add-one}
 use native.Mathlib.Omega.{arith}
-use lib.ListN.{length, take, length-take}
+use lib.ListN.{length}
 use lib.Dec.{leb}
 use mir.Facts.{and-yes, leb-yes}
 use Rattle.laws.proofs.Rises.{keeps-by-steps}
@@ -17,14 +17,14 @@ use Rattle.record.specs.declared.Job.{Job}
 use Rattle.record.specs.declared.JobRecord.{JobRecord}
 use Rattle.record.specs.declared.Answer.the-variants.{Accepted, Refused}
 use Rattle.record.proofs.Accepted.{accepted-job}
+use Rattle.record.specs.Tests.{answerOf}
 use Rattle.curve.specs.Curve.{Sweep}
-use Rattle.engine.specs.Sound.{Soundness, unsound, topOf, measured, soundness}
-use Rattle.engine.specs.Preparing.{InFront, Measurable, Prepares}
-use Rattle.engine.specs.declared.Prepared.{Prepared}
-
-pub as-sound : (x y : Soundness) (r : Prepared) (curve₀ curve₁ targets₀ targets₁ : List ℕ) → x ≡ y
-    → Prepares y r curve₀ curve₁ targets₀ targets₁ → Prepares x r curve₀ curve₁ targets₀ targets₁
-as-sound x y r curve₀ curve₁ targets₀ targets₁ e h = rw e h
+use Rattle.target.specs.declared.IndexRange.{IndexRange}
+use Rattle.engine.specs.Sound.{unsound, addedOf, topOf, rangeTests, measured, soundness}
+use Rattle.engine.specs.Drawing.{sweepTests, PassedTests}
+use Rattle.engine.specs.declared.Ranged.{Ranged}
+use Rattle.engine.specs.declared.Ranged.the-variants.{Wide, Fault}
+use Rattle.engine.proofs.Measuring.{Measurable, climbs, faulted}
 
 -- ---- a record
 
@@ -42,27 +42,33 @@ module _ {s : List ℕ} {job : Job} (a : AcceptedJob s job) where
   pub measurable : Measurable job (ddlsIn (sections s)) (luminancesIn (sections s))
   measurable = record { depth-low = a .depth-low; depth-high = a .depth-high; sweep = sweep-of }
 
+-- an accepted record is its job and its sweep, measured
+pub sound-as : (s : List ℕ) (job : Job) → answerOf s ≡ Accepted job → soundness s ≡ measured job (ddlsIn (sections s)) (luminancesIn (sections s))
+unfolding soundness
+sound-as s job e = rw e
+
 module _ {s : List ℕ} {r : JobRecord} (h : ReadFrom s r) where
-  module _ (job : Job) (e : r .answer ≡ Accepted job) where
-    pub accepted : AcceptedJob s job
-    accepted = accepted-job s job (sym (h .answer) ∙ e)
-
-    pub front-measurable : Measurable job (take (r .readings) (r .ddls)) (take (r .readings) (r .luminances))
-    front-measurable = rw (h .ddls, h .luminances) (measurable accepted)
-
-    pub in-front : InFront (r .readings) (r .ddls) (r .luminances)
-    in-front =
-        let n : length (take (r .readings) (r .ddls)) ≡ r .readings = rw (h .ddls) (sym (h .readings)) in
-        let m : length (take (r .readings) (r .luminances)) ≡ r .readings = rw (h .luminances) (accepted .pairs ∙ sym (h .readings)) in
-        record {
-          ddls-fit = omega (arith, n, length-take (r .readings) (r .ddls));
-          luminances-fit = omega (arith, m, length-take (r .readings) (r .luminances));
-        }
-
-    pub sound-as : soundness s ≡ measured job (take (r .readings) (r .ddls)) (take (r .readings) (r .luminances))
-    unfolding soundness
-    sound-as = rw (sym (h .answer), e, h .ddls, h .luminances)
-
   pub unread : (f : Refusal) → r .answer ≡ Refused f → soundness s ≡ unsound f
   unfolding soundness
   unread f e = rw (sym (h .answer), e)
+
+  module _ (job : Job) (e : r .answer ≡ Accepted job) where
+    is-accepted : answerOf s ≡ Accepted job
+    is-accepted = sym (h .answer) ∙ e
+
+    pub accepted : AcceptedJob s job
+    accepted = accepted-job s job is-accepted
+
+    pub in-order : r .first .0 ≤ r .last .0
+    in-order = rw (h .first, h .last) (climbs (measurable accepted) .order)
+
+    -- by what tests 8, 9 and 10 find
+    module _ {x : Ranged} (t : x ≡ rangeTests (addedOf job + r .first .0) (addedOf job + r .last .0)) where
+      tests-are : sweepTests (addedOf job) (luminancesIn (sections s)) ≡ x
+      tests-are = rw (← h .first, ← h .last) (sym t)
+
+      pub sent-back : (f : Refusal) → x ≡ Fault f → soundness s ≡ unsound f
+      sent-back f q = sound-as s job is-accepted ∙ faulted (measurable accepted) f (tests-are ∙ q)
+
+      pub passed-tests : (indices : IndexRange) → x ≡ Wide indices → PassedTests s job indices
+      passed-tests indices q = record { accepted = is-accepted; wide = tests-are ∙ q }

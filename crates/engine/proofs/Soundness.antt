@@ -19,10 +19,10 @@ use Rattle.target.specs.declared.IndexRange.{IndexRange}
 use Rattle.target.proofs.Laws as target
 use Rattle.target.proofs.Ranges.{range-black, range-white, range-between}
 use Rattle.engine.specs.Sound.{SoundJob, sound, IsSound, addedOf, topOf, measured, soundness}
-use Rattle.engine.specs.Preparing.{sweepTests, Measurable}
+use Rattle.engine.specs.Drawing.{sweepTests}
 use Rattle.engine.specs.declared.Ranged.{Ranged}
 use Rattle.engine.specs.declared.Ranged.the-variants.{Wide, Fault}
-use Rattle.engine.proofs.Measuring.{top-low, top-high, order, Passed, through, faulted, made-of, kept, aims}
+use Rattle.engine.proofs.Measuring.{Measurable, top-low, top-high, order, Passed, through, faulted, made-of, kept, aims}
 use Rattle.engine.proofs.Reading.{measurable}
 use Rattle.engine.proofs.Clashes.{sound-unsound, same-sound}
 use Rattle.gsdf.specs.Table.{tableB1}

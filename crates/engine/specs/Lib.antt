@@ -7,5 +7,5 @@ pub mod Even
 pub mod EvenFacts
 pub mod Check
 pub mod CheckFacts
-pub mod Preparing
+pub mod Drawing
 pub mod Checking

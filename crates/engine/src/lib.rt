@@ -3,8 +3,8 @@ ghost use mathlib.Core.Path.{_≡_};
 ghost use lib.ListN.{length, take};
 ghost use Prim.Native.Nat.{_+_, _≤_};
 ghost use Rattle.gsdf.specs.Table.{tableB1};
-ghost use Rattle.engine.specs.Sound.{soundness, measured, rangeTests};
-ghost use Rattle.engine.specs.Preparing.{lightOf, sweepTests, Arrays, Climbs, InFront, Measurable, Prepares};
+ghost use Rattle.engine.specs.Sound.{addedOf, rangeTests};
+ghost use Rattle.engine.specs.Drawing.{lightOf, PassedTests, Arrays, Drawn};
 ghost use Rattle.engine.specs.Nearest.{NearestPromise};
 ghost use Rattle.engine.specs.Even.{tooLittle, outcomeAnswer, EvenPromise};
 ghost use Rattle.engine.specs.Check.{limitOf, contrastAnswer, CheckPromise};
@@ -34,19 +34,13 @@ pub struct Light {
     pub added: Luminance,
 }
 
-// What a sound job gives beside its curve and its targets.
+// What a sound job gives beside its indices, its curve and its targets.
 pub struct Frame {
     // How many drive levels the display has.
     pub levels: usize,
-    pub indices: IndexRange,
     pub mark: RoomMark,
     // The allowed error, in thousandths of a target.
     pub tolerance: u16,
-}
-
-pub enum Prepared {
-    Ready(Frame),
-    SentBack(Refusal),
 }
 
 // The figures of a nearest table: Jlo, Jhi and N, the room mark, and the largest error over its entries.
@@ -102,17 +96,6 @@ fn test_range(b1: &[u32; 1023], added: Luminance, first: Luminance, last: Lumina
     Ranged::Wide(indices)
 }
 
-// Tests 8, 9 and 10 of a sweep, by its first and its last reading.
-fn test_sweep(b1: &[u32; 1023], added: Luminance, luminances: &[u32]) -> Ranged
-    requires { ⌜ (now b1 ≡ tableB1) × Climbs (now luminances) ⌝ }
-    ensures { λ r. ⌜ r ≡ sweepTests (added .0) (now (luminances .entry)) ⌝ }
-{
-    let end = luminances.len() - 1;
-    let darkest = luminances[0];
-    let brightest = luminances[end];
-    test_range(b1, added, Luminance(darkest), Luminance(brightest))
-}
-
 fn light_of(job: Job) -> Light
     ensures { λ r. ⌜ r ≡ lightOf job ⌝ }
 {
@@ -128,75 +111,50 @@ fn light_of(job: Job) -> Light
     }
 }
 
-// Tests 8, 9 and 10 of an accepted job, then its curve and its targets.
-fn measure(
-    job: Job,
-    ddls: &[u16],
-    luminances: &[u32],
-    curve: &mut [u32],
-    targets: &mut [u32],
-) -> Prepared
-    requires { ⌜ Measurable job (now ddls) (now luminances) × Arrays (now curve) (now targets) ⌝ }
-    ensures { λ r. ⌜ Prepares (measured job (now (ddls .entry)) (now (luminances .entry))) r (now (curve .entry)) (now (curve .exit)) (now (targets .entry)) (now (targets .exit)) ⌝ }
+// Tests 8, 9 and 10 of an accepted job, by the first and the last reading of its sweep.
+fn test_job(b1: &[u32; 1023], job: Job, first: Luminance, last: Luminance) -> Ranged
+    requires { ⌜ (now b1 ≡ tableB1) × (first .0 ≤ last .0) ⌝ }
+    ensures { λ r. ⌜ r ≡ rangeTests (addedOf job + first .0) (addedOf job + last .0) ⌝ }
 {
     let light = light_of(job);
     let added = light.added;
-    let b1 = gsdf::table_b1();
-    let found = test_sweep(&b1, added, luminances);
-    match found {
-        Ranged::Fault(r) => Prepared::SentBack(r),
-        Ranged::Wide(indices) => {
-            let room = light.room;
-            let first = luminances[0];
-            let mark = curve::room_mark(room, Luminance(first));
-            let settings = job.settings;
-            let depth = settings.depth;
-            let top = record::max_ddl(depth);
-            curve::fill_curve(ddls, luminances, top, added, curve);
-            let low = indices.low;
-            let range = indices.range;
-            target::fill_targets(&b1, low, range, PValue(255), targets);
-            let highest = top.0;
-            let levels = highest as usize + 1;
-            let tolerance = settings.tolerance;
-            Prepared::Ready(Frame {
-                levels: levels,
-                indices: indices,
-                mark: mark,
-                tolerance: tolerance,
-            })
-        }
-    }
+    test_range(b1, added, first, last)
 }
 
-// The same, with the n readings of the sweep at the front of two slices.
-fn measure_front<'a>(
+// The curve and the targets of a job that passed all tests, into the front of two arrays.
+fn draw(
+    b1: &[u32; 1023],
+    bytes: &[u8],
     job: Job,
-    ddls: &'a [u16],
-    luminances: &'a [u32],
-    n: usize,
+    indices: IndexRange,
     curve: &mut [u32],
     targets: &mut [u32],
-) -> Prepared
-    requires { ⌜ InFront n (now ddls) (now luminances) × Measurable job (take n (now ddls)) (take n (now luminances)) × Arrays (now curve) (now targets) ⌝ }
-    ensures { λ r. ⌜ Prepares (measured job (take n (now (ddls .entry))) (take n (now (luminances .entry)))) r (now (curve .entry)) (now (curve .exit)) (now (targets .entry)) (now (targets .exit)) ⌝ }
+) -> Frame
+    requires { ⌜ (now b1 ≡ tableB1) × PassedTests (now bytes) job indices × Arrays (now curve) (now targets) ⌝ }
+    ensures { λ r. ⌜ Drawn (now (bytes .entry)) indices r (now (curve .exit)) (now (targets .exit)) ⌝ }
 {
-    measure(job, &ddls[..n], &luminances[..n], curve, targets)
-}
-
-// Tests 2 to 10 of a record, its curve and its targets.
-fn prepare(bytes: &[u8], curve: &mut [u32], targets: &mut [u32]) -> Prepared
-    requires { ⌜ Arrays (now curve) (now targets) ⌝ }
-    ensures { λ r. ⌜ Prepares (soundness (now (bytes .entry))) r (now (curve .entry)) (now (curve .exit)) (now (targets .entry)) (now (targets .exit)) ⌝ }
-{
-    let found = record::read_record(bytes);
-    let answer = found.answer;
-    match answer {
-        Answer::Refused(r) => Prepared::SentBack(r),
-        Answer::Accepted(job) => {
-            let n = found.readings;
-            measure_front(job, &found.ddls, &found.luminances, n, curve, targets)
-        }
+    let mut ddls = [0u16; 1024];
+    let mut luminances = [0u32; 1024];
+    let n = record::fill_sweep(bytes, &mut ddls, &mut luminances);
+    let light = light_of(job);
+    let added = light.added;
+    let room = light.room;
+    let first = luminances[0];
+    let mark = curve::room_mark(room, Luminance(first));
+    let settings = job.settings;
+    let depth = settings.depth;
+    let tolerance = settings.tolerance;
+    let top = record::max_ddl(depth);
+    curve::fill_curve(&ddls[..n], &luminances[..n], top, added, curve);
+    let low = indices.low;
+    let range = indices.range;
+    target::fill_targets(b1, low, range, PValue(255), targets);
+    let highest = top.0;
+    let levels = highest as usize + 1;
+    Frame {
+        levels: levels,
+        mark: mark,
+        tolerance: tolerance,
     }
 }
 
@@ -207,21 +165,29 @@ pub fn nearest_table(bytes: &[u8], table: &mut [u16]) -> NearestAnswer
     if table.len() < 256 {
         return NearestAnswer::Refused(Refusal::LentTooShort);
     }
-    let mut curve = [0u32; 1024];
-    let mut targets = [0u32; 256];
-    let found = prepare(bytes, &mut curve, &mut targets);
-    match found {
-        Prepared::SentBack(r) => NearestAnswer::Refused(r),
-        Prepared::Ready(frame) => {
-            let levels = frame.levels;
-            let error = nearest::fill_table(&curve[..levels], &targets, table);
-            let indices = frame.indices;
-            let mark = frame.mark;
-            NearestAnswer::Made(NearestFigures {
-                indices: indices,
-                mark: mark,
-                error: error,
-            })
+    let found = record::read_record(bytes);
+    let answer = found.answer;
+    match answer {
+        Answer::Refused(r) => NearestAnswer::Refused(r),
+        Answer::Accepted(job) => {
+            let b1 = gsdf::table_b1();
+            let ranged = test_job(&b1, job, found.first, found.last);
+            match ranged {
+                Ranged::Fault(r) => NearestAnswer::Refused(r),
+                Ranged::Wide(indices) => {
+                    let mut curve = [0u32; 1024];
+                    let mut targets = [0u32; 256];
+                    let frame = draw(&b1, bytes, job, indices, &mut curve, &mut targets);
+                    let levels = frame.levels;
+                    let error = nearest::fill_table(&curve[..levels], &targets, table);
+                    let mark = frame.mark;
+                    NearestAnswer::Made(NearestFigures {
+                        indices: indices,
+                        mark: mark,
+                        error: error,
+                    })
+                }
+            }
         }
     }
 }
@@ -249,26 +215,35 @@ pub fn even_table(bytes: &[u8], table: &mut [u16], work: &mut [u32]) -> EvenAnsw
     if is_too_little(table.len(), work.len()) {
         return EvenAnswer::Refused(Refusal::LentTooShort);
     }
-    let mut curve = [0u32; 1024];
-    let mut targets = [0u32; 256];
-    let found = prepare(bytes, &mut curve, &mut targets);
-    match found {
-        Prepared::SentBack(r) => EvenAnswer::Refused(r),
-        Prepared::Ready(frame) => {
-            let levels = frame.levels;
-            let tolerance = frame.tolerance;
-            let mut starts = [0u16; 256];
-            let mut ends = [0u16; 256];
-            let outcome = even::fill_table(
-                &curve[..levels],
-                &targets,
-                tolerance,
-                &mut starts,
-                &mut ends,
-                table,
-                work,
-            );
-            even_answer(outcome)
+    let found = record::read_record(bytes);
+    let answer = found.answer;
+    match answer {
+        Answer::Refused(r) => EvenAnswer::Refused(r),
+        Answer::Accepted(job) => {
+            let b1 = gsdf::table_b1();
+            let ranged = test_job(&b1, job, found.first, found.last);
+            match ranged {
+                Ranged::Fault(r) => EvenAnswer::Refused(r),
+                Ranged::Wide(indices) => {
+                    let mut curve = [0u32; 1024];
+                    let mut targets = [0u32; 256];
+                    let frame = draw(&b1, bytes, job, indices, &mut curve, &mut targets);
+                    let levels = frame.levels;
+                    let tolerance = frame.tolerance;
+                    let mut starts = [0u16; 256];
+                    let mut ends = [0u16; 256];
+                    let outcome = even::fill_table(
+                        &curve[..levels],
+                        &targets,
+                        tolerance,
+                        &mut starts,
+                        &mut ends,
+                        table,
+                        work,
+                    );
+                    even_answer(outcome)
+                }
+            }
         }
     }
 }
@@ -292,35 +267,27 @@ fn contrast_answer(contrast: Contrast) -> CheckAnswer
     }
 }
 
-// Tests 8 to 10 of an accepted job, then its check. The n readings of its sweep and the m of its check are at the front of two slices.
-fn check_job<'a>(
+// The check of a job that passed all tests; the m readings of the check are at the front of a slice.
+fn check_job(
+    b1: &[u32; 1023],
     job: Job,
-    luminances: &'a [u32],
-    n: usize,
-    check: &'a [u32],
+    check: &[u32],
     m: usize,
     deviations: &mut [i32],
 ) -> CheckAnswer
-    requires { ⌜ CheckFront (now luminances) n (now check) m × (17 ≤ length (now deviations)) ⌝ }
-    ensures { λ r. ⌜ JobChecked job (take n (now (luminances .entry))) (take m (now (check .entry))) r (now (deviations .entry)) (now (deviations .exit)) ⌝ }
+    requires { ⌜ (now b1 ≡ tableB1) × CheckFront (now check) m × (17 ≤ length (now deviations)) ⌝ }
+    ensures { λ r. ⌜ JobChecked job (take m (now (check .entry))) r (now (deviations .entry)) (now (deviations .exit)) ⌝ }
 {
+    if m == 0 {
+        return CheckAnswer::NotMeasured;
+    }
     let light = light_of(job);
     let added = light.added;
-    let b1 = gsdf::table_b1();
-    let found = test_sweep(&b1, added, &luminances[..n]);
-    match found {
-        Ranged::Fault(r) => CheckAnswer::Refused(r),
-        Ranged::Wide(indices) => {
-            if m == 0 {
-                return CheckAnswer::NotMeasured;
-            }
-            let settings = job.settings;
-            let class = settings.class;
-            let limit = limit_of(class);
-            let contrast = contrast::check(&b1, check, added, limit, deviations);
-            contrast_answer(contrast)
-        }
-    }
+    let settings = job.settings;
+    let class = settings.class;
+    let limit = limit_of(class);
+    let contrast = contrast::check(b1, check, added, limit, deviations);
+    contrast_answer(contrast)
 }
 
 // The contrast check of a record; its deviations go into the front of a lent slice.
@@ -335,9 +302,15 @@ pub fn contrast_check(bytes: &[u8], deviations: &mut [i32]) -> CheckAnswer
     match answer {
         Answer::Refused(r) => CheckAnswer::Refused(r),
         Answer::Accepted(job) => {
-            let n = found.readings;
-            let m = found.patches;
-            check_job(job, &found.luminances, n, &found.check, m, deviations)
+            let b1 = gsdf::table_b1();
+            let ranged = test_job(&b1, job, found.first, found.last);
+            match ranged {
+                Ranged::Fault(r) => CheckAnswer::Refused(r),
+                Ranged::Wide(indices) => {
+                    let m = found.patches;
+                    check_job(&b1, job, &found.check, m, deviations)
+                }
+            }
         }
     }
 }

@@ -1,13 +1,14 @@
 -- A rule of a whole list by one test: each entry is at least s above the one before it.
 -- Assumes nothing.
-use mathlib.Core.Path.{_≡_, sym, ap, _∙_}
-use mathlib.Core.Bool.{Bool, true, _&&_, and-true, and-assoc}
+use mathlib.Core.Path.{_≡_, ap, _∙_}
+use mathlib.Core.Bool.{true, false}
 use mathlib.Core.List.{List, [], _∷_}
 use Prim.Native.Nat.{ℕ, zero, suc, _+_, _-_, _≤_, _<_, zero-le}
 use native.Mathlib.Omega.{arith}
 use native.Mathlib.Nat.{le-of-suc-le-suc, not-suc-le-zero}
 use lib.Dec.{T, leb, leb→le}
 use lib.ListN.{length, getD, drop}
+use borrow.Author.Tests.{le-leb, lt-leb}
 use mir.Facts.{and-yes}
 use Rattle.laws.specs.Rises.{risesFrom, risesBy, NeverFalls}
 use Rattle.laws.proofs.Numbers.{Grows, never-falls}
@@ -33,19 +34,24 @@ keeps-by-steps xs h = record { keeps = λ i k ik l. never-falls grows i k zero-l
 
 -- ---- the test, one entry at a time, as a loop makes it
 
--- x is the entry before place i, and `rising` whether the test passes up to there
-pub record RisesSoFar (s : ℕ) (xs : List ℕ) (rising : Bool) (x i : ℕ) : Type 0 where
-  pub is : risesBy s xs ≡ rising && risesFrom s x (drop i xs)
+-- x is the entry before place i, and the test passes up to there
+pub record RisesSoFar (s : ℕ) (xs : List ℕ) (x i : ℕ) : Type 0 where
+  pub is : risesBy s xs ≡ risesFrom s x (drop i xs)
 
-pub rises-first : (s : ℕ) (xs : List ℕ) (x : ℕ) → xs ≡ x ∷ drop 1 xs → RisesSoFar s xs true x 1
+pub rises-first : (s : ℕ) (xs : List ℕ) (x : ℕ) → xs ≡ x ∷ drop 1 xs → RisesSoFar s xs x 1
 unfolding risesBy
 rises-first s xs x e = record { is = ap (risesBy s) e }
 
-module _ {s : ℕ} {xs : List ℕ} {rising : Bool} {x i : ℕ} (h : RisesSoFar s xs rising x i) where
-  pub rises-more : (y : ℕ) (on : Bool) → drop i xs ≡ y ∷ drop (i + 1) xs → on ≡ leb (x + s) y → RisesSoFar s xs (rising && on) y (i + 1)
-  unfolding risesFrom
-  rises-more y on e t = record { is = h .is ∙ ap (λ (ys : List ℕ). rising && risesFrom s x ys) e ∙ rw t (sym (and-assoc rising (leb (x + s) y) _)) }
+module _ {s : ℕ} {xs : List ℕ} {x i : ℕ} (h : RisesSoFar s xs x i) where
+  module _ (y : ℕ) (e : drop i xs ≡ y ∷ drop (i + 1) xs) where
+    pub rises-more : x + s ≤ y → RisesSoFar s xs y (i + 1)
+    unfolding risesFrom
+    rises-more l = record { is = h .is ∙ ap (risesFrom s x) e ∙ simp (le-leb _ _ l) }
 
-  pub rises-end : drop i xs ≡ [] → rising ≡ risesBy s xs
+    pub rises-not : y < x + s → risesBy s xs ≡ false
+    unfolding risesFrom
+    rises-not l = h .is ∙ ap (risesFrom s x) e ∙ simp (lt-leb _ _ l)
+
+  pub rises-end : drop i xs ≡ [] → risesBy s xs ≡ true
   unfolding risesFrom
-  rises-end e = sym (h .is ∙ ap (λ (ys : List ℕ). rising && risesFrom s x ys) e ∙ and-true rising)
+  rises-end e = h .is ∙ ap (risesFrom s x) e

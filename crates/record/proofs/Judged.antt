@@ -1,11 +1,11 @@
 -- Tests 5 to 7, from what the code finds of each.
 -- Assumes nothing.
-use Prim.Native.Nat.{ℕ, _-_, _≤_}
+use Prim.Native.Nat.{ℕ, _-_, _*_, _≤_}
 use mathlib.Core.Path.{_≡_, refl, sym, ap, _∙_}
 use mathlib.Core.List.{List, [], _∷_}
 use mathlib.Core.Bool.{Bool, true, false, false≢true, _&&_}
-use lib.ListN.{length, take, getD}
-use lib.Seq.{drop-drop, getD-take, length-take-le}
+use lib.ListN.{length, getD}
+use lib.Seq.{drop-drop}
 use lib.Dec.{T, eqb, leb}
 use native.Mathlib.Omega.{arith}
 use mir.Facts.{and-yes, leb-yes}
@@ -19,7 +19,7 @@ use Rattle.record.specs.declared.Class.{Class}
 use Rattle.record.specs.declared.JobSettings.{JobSettings}
 use Rattle.record.specs.declared.Refusal.the-variants.{OutOfRange, DdlsDoNotSpan, LuminanceFalls}
 use Rattle.record.specs.declared.Answer.the-variants.{Accepted, Refused}
-use Rattle.record.proofs.Fields.{word-front}
+use Rattle.record.proofs.Fields.{word-front, word-at}
 
 -- the five settings, at their places
 five-words : (s : List ℕ) → fields 2 (word 0) 5 s ≡ word 0 s ∷ word 2 s ∷ word 4 s ∷ word 6 s ∷ word 8 s ∷ []
@@ -83,12 +83,21 @@ and-right : (a b : Bool) → (a && b) ≡ true → b ≡ true
 and-right true b h = h
 and-right false b h = absurd (false≢true h)
 
--- the test of the drive levels, by its three parts
-pub spans-by : (n m : ℕ) (ddls : List ℕ) → 1 ≤ n → n ≤ length ddls → (eqb (getD ddls 0 0) 0 && risesBy 1 (take n ddls)) && eqb (getD ddls (n - 1) 0) m ≡ spans m (take n ddls)
-spans-by n m ddls l h =
-    let first : getD (take n ddls) 0 0 ≡ getD ddls 0 0 = getD-take n ddls 0 0 (omega arith) in
-    let last : getD (take n ddls) (n - 1) 0 ≡ getD ddls (n - 1) 0 = getD-take n ddls (n - 1) 0 (omega arith) in
-    rw (length-take-le n ddls h, first, last)
+-- the first and the last level, at their places
+pub ends-by : (n : ℕ) (s : List ℕ) (top : ℕ) {first last : ℕ} → 1 ≤ n → first ≡ word 0 s → last ≡ word ((n - 1) * 6) s
+    → (eqb first 0 && eqb last top) ≡ (eqb (getD (fields 6 (word 0) n s) 0 0) 0 && eqb (getD (fields 6 (word 0) n s) (n - 1) 0) top)
+ends-by n s top {first = first} {last = last} l e f = rw (word-at 6 n s 0 first l e 0, word-at 6 n s (n - 1) last (omega arith) f 0)
+
+pub neither : (a b : Bool) → b ≡ false → false ≡ (a && b)
+neither true b h = sym h
+neither false b h = refl
+
+exchanged : (a b c : Bool) → (a && b && c) ≡ (a && c && b)
+exchanged false b c = refl
+exchanged true false false = refl
+exchanged true false true = refl
+exchanged true true false = refl
+exchanged true true true = refl
 
 -- the answer, by what the code finds on its way to it
 module _ (st la dd lu : List ℕ) {a b : Bool} (p : a ≡ settingsInRange st) (q : b ≡ lampsInRange la) where
@@ -109,19 +118,24 @@ module _ (st la dd lu : List ℕ) {a b : Bool} (p : a ≡ settingsInRange st) (q
         let r = ranges st (yes-is (sym p ∙ and-left a b h)) in
         rw depth-is (r .depth-low, r .depth-high)
 
-    module _ {m : ℕ} (f : m ≡ maxDdl (job .depth)) {c : Bool} (g : c ≡ spans m dd) where
-      spans-is : spans (maxDdl (getD st 0 0)) dd ≡ c
-      spans-is = rw (← depth-is, ← f) (sym g)
+    -- `ends`: the sweep begins and ends as it must
+    module _ {m n : ℕ} (f : m ≡ maxDdl (job .depth)) (z : length dd ≡ n) {ends : Bool} (g : ends ≡ (eqb (getD dd 0 0) 0 && eqb (getD dd (n - 1) 0) m)) where
+      spans-is : spans (maxDdl (getD st 0 0)) dd ≡ (ends && risesBy 1 dd)
+      spans-is = rw (← depth-is, ← f, g, ← z) (exchanged (eqb (getD dd 0 0) 0) (risesBy 1 dd) (eqb (getD dd (length dd - 1) 0) m))
 
-      pub judged-ddls : c ≡ false → Refused DdlsDoNotSpan ≡ judged st la dd lu
+      pub judged-ends : ends ≡ false → Refused DdlsDoNotSpan ≡ judged st la dd lu
       unfolding judged
-      judged-ddls k = rw (← p, ← q, h, spans-is, k)
+      judged-ends k = rw (← p, ← q, h, spans-is, k)
 
-      module _ (k : c ≡ true) {d : Bool} (r : d ≡ neverFalls lu) where
-        pub judged-luminances : d ≡ false → Refused LuminanceFalls ≡ judged st la dd lu
+      module _ (k : ends ≡ true) where
+        pub judged-ddls : risesBy 1 dd ≡ false → Refused DdlsDoNotSpan ≡ judged st la dd lu
         unfolding judged
-        judged-luminances l = rw (← p, ← q, h, spans-is, k, ← r, l)
+        judged-ddls n = rw (← p, ← q, h, spans-is, k, n)
 
-        pub judged-accepted : d ≡ true → (lux : Lux) → lux .0 ≡ sum la → Accepted (record { settings = job; lamps = lux }) ≡ judged st la dd lu
+        pub judged-luminances : risesBy 1 dd ≡ true → (risesBy 1 dd && neverFalls lu) ≡ false → Refused LuminanceFalls ≡ judged st la dd lu
         unfolding judged
-        judged-accepted l lux s = rw (← p, ← q, h, spans-is, k, ← r, l, e) (rw (← s))
+        judged-luminances n l = let falls : neverFalls lu ≡ false = sym (ap (λ (x : Bool). x && neverFalls lu) n) ∙ l in rw (← p, ← q, h, spans-is, k, n, falls)
+
+        pub judged-accepted : (risesBy 1 dd && neverFalls lu) ≡ true → (lux : Lux) → lux .0 ≡ sum la → Accepted (record { settings = job; lamps = lux }) ≡ judged st la dd lu
+        unfolding judged
+        judged-accepted l lux s = rw (← p, ← q, h, spans-is, k, and-left (risesBy 1 dd) (neverFalls lu) l, and-right (risesBy 1 dd) (neverFalls lu) l, e) (rw (← s))

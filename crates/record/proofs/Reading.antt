@@ -3,20 +3,21 @@
 use Prim.Native.Nat.{ℕ, _+_, _-_, _*_}
 use mathlib.Core.Path.{_≡_, refl, sym, ap, _∙_}
 use mathlib.Core.List.{List, _++_}
-use lib.ListN.{length, take, drop, length-append, length-drop}
+use lib.ListN.{length, take, drop, getD, length-append, length-drop}
 use lib.Seq.{take-at, take-all}
 use native.Mathlib.Omega.{arith}
+use Rattle.units.specs.declared.Luminance.{Luminance}
 use Rattle.record.specs.Bytes.{word, long, fields}
 use Rattle.record.specs.Sections.{lists, items, rest, layoutOf, sections}
 use Rattle.record.specs.Tests.{judged, answerOf}
-use Rattle.record.specs.Reader.{Judgeable, ReadFrom}
+use Rattle.record.specs.Reader.{SweepItems, Judgeable, ReadFrom, SweepFilled}
 use Rattle.record.specs.declared.Section.the-variants.{Settings, Lamps, Sweep, Check}
 use Rattle.record.specs.declared.Layout.the-variants.{Complete, Broken}
 use Rattle.record.specs.declared.Refusal.{Refusal}
 use Rattle.record.specs.declared.Answer.{Answer}
 use Rattle.record.specs.declared.Answer.the-variants.{Refused}
 use Rattle.record.proofs.Fields.{fields-length}
-use Rattle.record.proofs.Placed.{sizes, part-is, at-sweep, at-check}
+use Rattle.record.proofs.Placed.{sizes, part-is, part-length, at-sweep, at-check}
 
 -- where a section starts
 abbrev atLamps : ℕ → ℕ
@@ -43,6 +44,18 @@ filled-length : (w : ℕ) (f : List ℕ → ℕ) (n : ℕ) (bs zs : List ℕ) �
 filled-length w f n bs zs = rw (length-append, fields-length, length-drop)
 
 module _ (s : List ℕ) (a b c d : ℕ) (l : layoutOf s ≡ Complete a b c d) where
+  abbrev sweep-part : List ℕ
+  sweep-part = part s (atSweep a b + 2) (atCheck a b c)
+
+  pub sweep-items : SweepItems sweep-part c
+  sweep-items =
+      let z = sizes s a b c d l in
+      record {
+        some = omega arith;
+        most = z .sweep;
+        whole = part-length s (atSweep a b + 2) (atCheck a b c) (omega arith) (omega arith) ∙ omega arith;
+      }
+
   -- the five lists, from those parts
   pub lists-of : sections s ≡ lists
       (fields 2 (word 0) 5 (part s 2 (atLamps a)))
@@ -59,72 +72,73 @@ module _ (s : List ℕ) (a b c d : ℕ) (l : layoutOf s ≡ Complete a b c d) wh
       let e₃ : part s (atCheck a b c + 2) (atEnd a b c d) ≡ items Check d (rest Sweep c (rest Lamps b (rest Settings a s))) = part-is Check s (atCheck a b c) d (atEnd a b c d) refl ∙ ap (items Check d) (sym (at-check s a b c)) in
       rw (l, e₀, e₁, e₂, e₃, z .settings)
 
-  -- the arrays after their fronts were filled
-  pub judgeable : {st la ds ls : List ℕ} (s₀ s₁ s₂ zs₁ zs₂ zs₃ : List ℕ)
-      → st ≡ fields 2 (word 0) 5 s₀
-      → la ≡ fields 2 (word 0) b s₁ ++ drop b zs₁
-      → length zs₁ ≡ 8
-      → ds ≡ fields 6 (word 0) c s₂ ++ drop c zs₂
-      → length zs₂ ≡ 1024
-      → ls ≡ fields 6 (long 2) c s₂ ++ drop c zs₃
-      → length zs₃ ≡ 1024
-      → Judgeable st la b ds ls c
-  judgeable s₀ s₁ s₂ zs₁ zs₂ zs₃ st la k ds m ls n =
+  -- what the tests are given: the settings, the array of the lamps, the sweep where it lies
+  pub judgeable : {st la : List ℕ} (s₀ s₁ zs : List ℕ) → st ≡ fields 2 (word 0) 5 s₀ → la ≡ fields 2 (word 0) b s₁ ++ drop b zs → length zs ≡ 8
+      → Judgeable st la b (part s (atSweep a b + 2) (atCheck a b c)) c
+  judgeable s₀ s₁ zs st la k =
       let z = sizes s a b c d l in
-      let eight = ap length la ∙ filled-length 2 (word 0) b s₁ zs₁ in
-      let levels = ap length ds ∙ filled-length 6 (word 0) c s₂ zs₂ in
-      let luminances = ap length ls ∙ filled-length 6 (long 2) c s₂ zs₃ in
+      let eight = ap length la ∙ filled-length 2 (word 0) b s₁ zs in
       record {
         five = ap length st ∙ fields-length 2 (word 0) 5 s₀;
         up-to-8 = z .lamps;
         lamps-fit = omega arith;
-        some-readings = omega arith;
-        ddls-fit = omega arith;
-        luminances-fit = omega arith;
+        readings = sweep-items;
       }
 
-  pub read-whole : {r : Answer} {st la ds ls ch : List ℕ} (zs₀ zs₁ zs₂ zs₃ : List ℕ)
-      → r ≡ judged st (take b la) (take c ds) (take c ls)
+  pub read-whole : {r : Answer} {st la ch : List ℕ} {first last : Luminance} (zs₀ zs₁ : List ℕ)
+      → r ≡ judged st (take b la) (fields 6 (word 0) c sweep-part) (fields 6 (long 2) c sweep-part)
       → st ≡ fields 2 (word 0) 5 (part s 2 (atLamps a))
       → la ≡ fields 2 (word 0) b (part s (atLamps a + 2) (atSweep a b)) ++ zs₀
-      → ds ≡ fields 6 (word 0) c (part s (atSweep a b + 2) (atCheck a b c)) ++ zs₁
-      → ls ≡ fields 6 (long 2) c (part s (atSweep a b + 2) (atCheck a b c)) ++ zs₂
-      → ch ≡ fields 4 (long 0) d (part s (atCheck a b c + 2) (atEnd a b c d)) ++ zs₃
-      → ReadFrom s (record { answer = r; given = a; settings = st; sources = b; lamps = la; readings = c; ddls = ds; luminances = ls; patches = d; check = ch })
+      → first .0 ≡ getD (fields 6 (long 2) c sweep-part) 0 0
+      → last .0 ≡ getD (fields 6 (long 2) c sweep-part) (c - 1) 0
+      → ch ≡ fields 4 (long 0) d (part s (atCheck a b c + 2) (atEnd a b c d)) ++ zs₁
+      → ReadFrom s (record { answer = r; given = a; settings = st; sources = b; lamps = la; first = first; last = last; patches = d; check = ch })
   unfolding answerOf
-  read-whole {st = settings} zs₀ zs₁ zs₂ zs₃ e st′ la′ ds′ ls′ ch′ =
+  read-whole {st = settings} zs₀ zs₁ e st′ la′ first′ last′ ch′ =
       let five = (sizes s a b c d l) .settings in
       let st = ap (take 5) st′ ∙ take-all 5 (fields 2 (word 0) 5 (part s 2 (atLamps a))) (rw fields-length (omega arith)) in
       let la = ap (take b) la′ ∙ front 2 (word 0) b (part s (atLamps a + 2) (atSweep a b)) zs₀ in
-      let ds = ap (take c) ds′ ∙ front 6 (word 0) c (part s (atSweep a b + 2) (atCheck a b c)) zs₁ in
-      let ls = ap (take c) ls′ ∙ front 6 (long 2) c (part s (atSweep a b + 2) (atCheck a b c)) zs₂ in
-      let ch = ap (take d) ch′ ∙ front 4 (long 0) d (part s (atCheck a b c + 2) (atEnd a b c d)) zs₃ in
+      let ch = ap (take d) ch′ ∙ front 4 (long 0) d (part s (atCheck a b c + 2) (atEnd a b c d)) zs₁ in
       record {
-        answer = e ∙ rw (st′, la, ds, ls, lists-of);
+        answer = e ∙ rw (st′, la, lists-of);
         given = rw (lists-of, fields-length) five;
         settings = rw lists-of (ap (λ (k : ℕ). take k settings) five ∙ st);
         sources = rw (lists-of, fields-length);
         lamps = rw lists-of la;
-        readings = rw (lists-of, fields-length);
-        ddls = rw lists-of ds;
-        luminances = rw lists-of ls;
+        first = rw lists-of first′;
+        last = rw (lists-of, fields-length) last′;
         patches = rw (lists-of, fields-length);
         check = rw lists-of ch;
       }
 
+  -- the sweep at the front of two arrays
+  pub sweep-filled : {ds ls : List ℕ} (zs₀ zs₁ : List ℕ)
+      → ds ≡ fields 6 (word 0) c sweep-part ++ zs₀
+      → ls ≡ fields 6 (long 2) c sweep-part ++ zs₁
+      → SweepFilled s c ds ls
+  sweep-filled zs₀ zs₁ ds ls = record {
+    readings = rw (lists-of, fields-length);
+    ddls-are = rw lists-of (ap (take c) ds ∙ front 6 (word 0) c sweep-part zs₀);
+    luminances-are = rw lists-of (ap (take c) ls ∙ front 6 (long 2) c sweep-part zs₁);
+  }
+
 -- a record that cannot be read has nothing in its lists
-pub read-none : (s : List ℕ) (r : Refusal) (st la ds ls ch : List ℕ) → layoutOf s ≡ Broken r
-    → ReadFrom s (record { answer = Refused r; given = 0; settings = st; sources = 0; lamps = la; readings = 0; ddls = ds; luminances = ls; patches = 0; check = ch })
-unfolding answerOf sections
-read-none s r st la ds ls ch e = record {
-  answer = rw e;
-  given = rw e;
-  settings = rw e;
-  sources = rw e;
-  lamps = rw e;
-  readings = rw e;
-  ddls = rw e;
-  luminances = rw e;
-  patches = rw e;
-  check = rw e;
-}
+module _ (s : List ℕ) (r : Refusal) (e : layoutOf s ≡ Broken r) where
+  pub read-none : (st la ch : List ℕ)
+      → ReadFrom s (record { answer = Refused r; given = 0; settings = st; sources = 0; lamps = la; first = record { 0 = 0 }; last = record { 0 = 0 }; patches = 0; check = ch })
+  unfolding answerOf sections
+  read-none st la ch = record {
+    answer = rw e;
+    given = rw e;
+    settings = rw e;
+    sources = rw e;
+    lamps = rw e;
+    first = rw e;
+    last = rw e;
+    patches = rw e;
+    check = rw e;
+  }
+
+  pub none-filled : (ds ls : List ℕ) → SweepFilled s 0 ds ls
+  unfolding sections
+  none-filled ds ls = record { readings = rw e; ddls-are = rw e; luminances-are = rw e }

@@ -1,16 +1,18 @@
 // The job record: any bytes give its sections and, after tests 5 to 7, its job, or the first refusal from 2 to 7.
 ghost use mathlib.Core.Path.{_≡_};
 ghost use mathlib.Core.List.{_++_};
-ghost use Prim.Native.Nat.{_+_, _*_, _<_, _≤_};
-ghost use lib.ListN.{length, take, drop};
-ghost use lib.Dec.{T};
+ghost use mathlib.Core.Bool.{_&&_};
+ghost use Prim.Native.Nat.{_+_, _-_, _*_, _<_, _≤_};
+ghost use lib.ListN.{length, take, drop, getD};
+ghost use lib.Dec.{T, eqb};
 ghost use Rattle.laws.specs.Rises.{risesBy};
 ghost use Rattle.record.specs.Refusals.{refusalNumber};
 ghost use Rattle.record.specs.Bytes.{word, long, fields};
 ghost use Rattle.record.specs.Sections.{permitted, width, countOf, layoutOf};
-ghost use Rattle.record.specs.Tests.{within, meterOf, classOf, settingsInRange, settingsOf, lampsInRange, sum, maxDdl, spans, neverFalls, judged};
-ghost use Rattle.record.specs.Reader.{Judgeable, ReadFrom};
+ghost use Rattle.record.specs.Tests.{within, meterOf, classOf, settingsInRange, settingsOf, lampsInRange, sum, maxDdl, neverFalls, judged};
+ghost use Rattle.record.specs.Reader.{SweepItems, Judgeable, ReadFrom, SweepFilled};
 use units::Ddl;
+use units::Luminance;
 use units::Lux;
 use units::Reflectance;
 
@@ -102,17 +104,17 @@ pub enum Answer {
     Refused(Refusal),
 }
 
-// The answer, and beside it the five lists of every record whose sections are complete, each at the front of its array: `given` settings,
-// `sources` lamps, `readings` of the sweep, `patches` of the check. The counts are 0 where the sections are not complete.
+// The answer, and beside it what every record holds whose sections are complete: `given` settings, `sources` lamps and `patches` of the check,
+// each at the front of its array, and of the sweep the first and the last luminance; `fill_sweep` gives all of it. The numbers are 0 where
+// the sections are not complete.
 pub struct JobRecord {
     pub answer: Answer,
     pub given: usize,
     pub settings: [u16; 5],
     pub sources: usize,
     pub lamps: [u16; 8],
-    pub readings: usize,
-    pub ddls: [u16; 1024],
-    pub luminances: [u32; 1024],
+    pub first: Luminance,
+    pub last: Luminance,
     pub patches: usize,
     pub check: [u32; 18],
 }
@@ -253,7 +255,7 @@ fn read_lamps(items: &[u8], n: usize, lamps: &mut [u16])
 
 // The sweep's items, into the front of two arrays.
 fn read_sweep(items: &[u8], n: usize, ddls: &mut [u16], luminances: &mut [u32])
-    requires { ⌜ (n ≤ 1024) × (length (now items) ≡ n * 6) × (length (now ddls) ≡ 1024) × (length (now luminances) ≡ 1024) ⌝ }
+    requires { ⌜ SweepItems (now items) n × (length (now ddls) ≡ 1024) × (length (now luminances) ≡ 1024) ⌝ }
     ensures { λ r. ⌜ (now (ddls .exit) ≡ fields 6 (word 0) n (now (items .entry)) ++ drop n (now (ddls .entry)))
         × (now (luminances .exit) ≡ fields 6 (long 2) n (now (items .entry)) ++ drop n (now (luminances .entry))) ⌝ }
 {
@@ -380,64 +382,66 @@ pub fn max_ddl(depth: u16) -> Ddl
     Ddl(1023)
 }
 
-// This loop and the next one go on after a fault: the compiler makes vectors of them then, which it does not of a loop that returns.
-fn rise_strictly(ddls: &[u16], n: usize) -> bool
-    requires { ⌜ (1 ≤ n) × (n ≤ length (now ddls)) ⌝ }
-    ensures { λ r. ⌜ r ≡ risesBy 1 (take n (now (ddls .entry))) ⌝ }
+// The first and the last level of a sweep.
+fn ends_span(items: &[u8], n: usize, top: Ddl) -> bool
+    requires { ⌜ SweepItems (now items) n ⌝ }
+    ensures { λ r. ⌜ r ≡ (eqb (getD (fields 6 (word 0) n (now (items .entry))) 0 0) 0 && eqb (getD (fields 6 (word 0) n (now (items .entry))) (n - 1) 0) (top .0)) ⌝ }
 {
-    let mut rising = true;
-    let mut last = ddls[0];
+    let highest = top.0;
+    let first = u16_at(items, 0);
+    let last = u16_at(items, (n - 1) * 6);
+    (first == 0) & (last == highest)
+}
+
+// Each level is above the one before it.
+fn rise_strictly(items: &[u8], n: usize) -> bool
+    requires { ⌜ SweepItems (now items) n ⌝ }
+    ensures { λ r. ⌜ r ≡ risesBy 1 (fields 6 (word 0) n (now (items .entry))) ⌝ }
+{
+    let mut last = u16_at(items, 0);
     let mut i: usize = 1;
     while i < n {
-        let ddl = ddls[i];
-        rising = rising & (last < ddl);
+        let ddl = u16_at(items, i * 6);
+        if ddl <= last {
+            return false;
+        }
         last = ddl;
         i += 1;
     }
-    rising
+    true
 }
 
-fn never_fall(luminances: &[u32], n: usize) -> bool
-    requires { ⌜ (1 ≤ n) × (n ≤ length (now luminances)) ⌝ }
-    ensures { λ r. ⌜ r ≡ neverFalls (take n (now (luminances .entry))) ⌝ }
+// The same, and no luminance is below the one before it: both in one walk over the sweep where it lies.
+fn climb(items: &[u8], n: usize) -> bool
+    requires { ⌜ SweepItems (now items) n ⌝ }
+    ensures { λ r. ⌜ r ≡ (risesBy 1 (fields 6 (word 0) n (now (items .entry))) && neverFalls (fields 6 (long 2) n (now (items .entry)))) ⌝ }
 {
-    let mut kept = true;
-    let mut last = luminances[0];
+    let mut last_ddl = u16_at(items, 0);
+    let mut last_luminance = u32_at(items, 2);
     let mut i: usize = 1;
     while i < n {
-        let luminance = luminances[i];
-        kept = kept & (last <= luminance);
-        last = luminance;
+        let at = i * 6;
+        let ddl = u16_at(items, at);
+        let luminance = u32_at(items, at + 2);
+        if ddl <= last_ddl {
+            return false;
+        }
+        if luminance < last_luminance {
+            return false;
+        }
+        last_ddl = ddl;
+        last_luminance = luminance;
         i += 1;
     }
-    kept
-}
-
-// Test 6.
-fn ddls_span(ddls: &[u16], n: usize, top: Ddl) -> bool
-    requires { ⌜ (1 ≤ n) × (n ≤ length (now ddls)) ⌝ }
-    ensures { λ r. ⌜ r ≡ spans (top .0) (take n (now (ddls .entry))) ⌝ }
-{
-    let highest = top.0;
-    let first = ddls[0];
-    let rising = rise_strictly(ddls, n);
-    let last = ddls[n - 1];
-    (first == 0) & rising & (last == highest)
+    true
 }
 
 // ---- the record
 
-// Tests 5, 6 and 7 in their order, of the settings, m lamps and n readings.
-fn judge(
-    settings: &[u16],
-    lamps: &[u16],
-    m: usize,
-    ddls: &[u16],
-    luminances: &[u32],
-    n: usize,
-) -> Answer
-    requires { ⌜ Judgeable (now settings) (now lamps) m (now ddls) (now luminances) n ⌝ }
-    ensures { λ r. ⌜ r ≡ judged (now (settings .entry)) (take m (now (lamps .entry))) (take n (now (ddls .entry))) (take n (now (luminances .entry))) ⌝ }
+// Tests 5, 6 and 7 in their order, of the settings, m lamps and n items of a sweep.
+fn judge(settings: &[u16], lamps: &[u16], m: usize, sweep: &[u8], n: usize) -> Answer
+    requires { ⌜ Judgeable (now settings) (now lamps) m (now sweep) n ⌝ }
+    ensures { λ r. ⌜ r ≡ judged (now (settings .entry)) (take m (now (lamps .entry))) (fields 6 (word 0) n (now (sweep .entry))) (fields 6 (long 2) n (now (sweep .entry))) ⌝ }
 {
     let in_range = settings_in_range(settings) & lamps_in_range(lamps, m);
     if !in_range {
@@ -446,17 +450,29 @@ fn judge(
     let of_job = job_settings(settings);
     let depth = of_job.depth;
     let top = max_ddl(depth);
-    if !ddls_span(ddls, n, top) {
+    if !ends_span(sweep, n, top) {
         return Answer::Refused(Refusal::DdlsDoNotSpan);
     }
-    if !never_fall(luminances, n) {
-        return Answer::Refused(Refusal::LuminanceFalls);
+    if !climb(sweep, n) {
+        if rise_strictly(sweep, n) {
+            return Answer::Refused(Refusal::LuminanceFalls);
+        }
+        return Answer::Refused(Refusal::DdlsDoNotSpan);
     }
     let lux = lamp_sum(lamps, m);
     Answer::Accepted(Job {
         settings: of_job,
         lamps: lux,
     })
+}
+
+// The luminance of reading i.
+fn luminance_at(items: &[u8], n: usize, i: usize) -> Luminance
+    requires { ⌜ SweepItems (now items) n × (i < n) ⌝ }
+    ensures { λ r. ⌜ r .0 ≡ getD (fields 6 (long 2) n (now (items .entry))) i 0 ⌝ }
+{
+    let luminance = u32_at(items, i * 6 + 2);
+    Luminance(luminance)
 }
 
 // A record whose sections are complete, of a settings, b lamps, c readings and d check readings: each section's items go to its own reader.
@@ -469,28 +485,22 @@ fn read_sections(bytes: &[u8], a: usize, b: usize, c: usize, d: usize) -> JobRec
     let at_check = at_sweep + (2 + c * 6);
     let end = at_check + (2 + d * 4);
     let mut lamps = [0u16; 8];
-    let mut ddls = [0u16; 1024];
-    let mut luminances = [0u32; 1024];
     let mut check = [0u32; 18];
     let settings = read_settings(&bytes[2..at_lamps]);
     read_lamps(&bytes[at_lamps + 2..at_sweep], b, &mut lamps);
-    read_sweep(
-        &bytes[at_sweep + 2..at_check],
-        c,
-        &mut ddls,
-        &mut luminances,
-    );
     read_check(&bytes[at_check + 2..end], d, &mut check);
-    let answer = judge(&settings, &lamps, b, &ddls, &luminances, c);
+    let sweep = &bytes[at_sweep + 2..at_check];
+    let answer = judge(&settings, &lamps, b, sweep, c);
+    let first = luminance_at(sweep, c, 0);
+    let last = luminance_at(sweep, c, c - 1);
     JobRecord {
         answer: answer,
         given: a,
         settings: settings,
         sources: b,
         lamps: lamps,
-        readings: c,
-        ddls: ddls,
-        luminances: luminances,
+        first: first,
+        last: last,
         patches: d,
         check: check,
     }
@@ -509,11 +519,27 @@ pub fn read_record(bytes: &[u8]) -> JobRecord
             settings: [0u16; 5],
             sources: 0,
             lamps: [0u16; 8],
-            readings: 0,
-            ddls: [0u16; 1024],
-            luminances: [0u32; 1024],
+            first: Luminance(0),
+            last: Luminance(0),
             patches: 0,
             check: [0u32; 18],
         },
+    }
+}
+
+// The sweep of a record of any bytes, into the front of two arrays; how many readings it has.
+pub fn fill_sweep(bytes: &[u8], ddls: &mut [u16], luminances: &mut [u32]) -> usize
+    requires { ⌜ (length (now ddls) ≡ 1024) × (length (now luminances) ≡ 1024) ⌝ }
+    ensures { λ r. ⌜ SweepFilled (now (bytes .entry)) r (now (ddls .exit)) (now (luminances .exit)) ⌝ }
+{
+    let found = read_layout(bytes);
+    match found {
+        Layout::Complete(a, b, n, d) => {
+            let at_sweep = 2 + a * 2 + (2 + b * 2);
+            let at_check = at_sweep + (2 + n * 6);
+            read_sweep(&bytes[at_sweep + 2..at_check], n, ddls, luminances);
+            n
+        }
+        Layout::Broken(r) => 0,
     }
 }

@@ -4,7 +4,7 @@ use Prim.Native.Nat.{ℕ}
 use mathlib.Core.List.{List}
 use mathlib.Core.Path.{_≡_, ap, _∙_}
 use Rattle.record.specs.Refusals.{refusalNumber}
-use Rattle.record.specs.Reader.{ReadFrom}
+use Rattle.record.specs.Reader.{ReadFrom, SweepFilled}
 use Rattle.record.specs.declared.Refusal.{Refusal}
 use Rattle.record.specs.declared.Job.{Job}
 use Rattle.record.specs.declared.JobRecord.{JobRecord}
@@ -30,17 +30,17 @@ pub numbers-refused : {answer : Answer} {r : Refusal} {n : ℕ} → answer ≡ R
     → record { refusal = n; depth = 0; meter = 0; class = 0; reflectance = 0; tolerance = 0; lux = 0 } ≡ numbersOf answer
 numbers-refused e f = rw (e, f)
 
-pub values-of : {s : List ℕ} {r : JobRecord} {x : Numbers} → ReadFrom s r → x ≡ numbersOf (r .answer)
-    → ValuesOf s (record { answer = x; given = r .given; settings = r .settings; sources = r .sources; lamps = r .lamps; readings = r .readings; ddls = r .ddls; luminances = r .luminances; patches = r .patches; check = r .check })
-values-of h e = record {
+pub values-of : {s : List ℕ} {r : JobRecord} {x : Numbers} {n : ℕ} {ddls luminances : List ℕ} → ReadFrom s r → SweepFilled s n ddls luminances → x ≡ numbersOf (r .answer)
+    → ValuesOf s (record { answer = x; given = r .given; settings = r .settings; sources = r .sources; lamps = r .lamps; readings = n; ddls = ddls; luminances = luminances; patches = r .patches; check = r .check })
+values-of h f e = record {
   answer = e ∙ ap numbersOf (h .answer);
   given = h .given;
   settings = h .settings;
   sources = h .sources;
   lamps = h .lamps;
-  readings = h .readings;
-  ddls = h .ddls;
-  luminances = h .luminances;
+  readings = f .readings;
+  ddls = f .ddls-are;
+  luminances = f .luminances-are;
   patches = h .patches;
   check = h .check;
 }

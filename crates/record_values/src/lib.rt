@@ -95,13 +95,14 @@ fn numbers_of(answer: Answer) -> Numbers
 pub extern "C" fn record_read(bytes: &[u8]) -> RecordValues
     ensures { λ r. ⌜ ValuesOf (now (bytes .entry)) r ⌝ }
 {
+    let mut ddls = [0u16; 1024];
+    let mut luminances = [0u32; 1024];
+    let readings = record::fill_sweep(bytes, &mut ddls, &mut luminances);
     let found = record::read_record(bytes);
     let answer = found.answer;
     let in_numbers = numbers_of(answer);
     let settings = found.settings;
     let lamps = found.lamps;
-    let ddls = found.ddls;
-    let luminances = found.luminances;
     let check = found.check;
     RecordValues {
         answer: in_numbers,
@@ -109,7 +110,7 @@ pub extern "C" fn record_read(bytes: &[u8]) -> RecordValues
         settings: settings,
         sources: found.sources,
         lamps: lamps,
-        readings: found.readings,
+        readings: readings,
         ddls: ddls,
         luminances: luminances,
         patches: found.patches,

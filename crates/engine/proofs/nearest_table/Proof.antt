@@ -1,95 +1,115 @@
+use mathlib.Core.Path.{refl, sym}
 use native.Mathlib.Omega.{arith}
-use borrow.Author.Needs.{needs}
-use mathlib.Core.Path.{sym}
 use lib.Seq.{length-take-le}
-use Rattle.engine.proofs.Ready.{readied, sent-back}
+use Rattle.engine.proofs.Reading.{unread, in-order, sent-back, passed-tests}
 use Rattle.engine.proofs.Nearest.{too-short, back, fillable, filled}
+use borrow.Author.Needs.{needs}
 use Rattle.engine.proofs.nearest_table.Statement.{statement}
 use Rattle.engine.proofs.nearest_table.Tie as tie
 use Rattle.engine.proofs.nearest_table.Reads as reads
 use Rattle.engine.proofs.nearest_table.Lts as lts
-use Rattle.engine.proofs.prepare.Reads as prepare-reads
+use Rattle.engine.proofs.draw.Reads as draw-reads
+use Rattle.engine.proofs.test_job.Reads as test-job-reads
+use Rattle.gsdf.proofs.table_b1.Reads as table-b1-reads
 use Rattle.nearest.proofs.fill_table.Reads as fill-table-reads
+use Rattle.record.proofs.read_record.Reads as read-record-reads
 
 -- src/lib.rt:166:9
 returns : tie.Need-returns
 returns c = too-short _ _ (omega arith)
 
--- src/lib.rt:170:32
-slice-aggregate-prepare : tie.Need-slice-aggregate-prepare
-slice-aggregate-prepare c = search needs
+-- src/lib.rt:168:9
+read-record-requires : tie.Need-read-record-requires
+read-record-requires c κs = search needs
 
--- src/lib.rt:170:44
-slice-aggregate-prepare-2 : tie.Need-slice-aggregate-prepare-2
-slice-aggregate-prepare-2 c = search needs
-
--- src/lib.rt:170:9
-prepare-requires : tie.Need-prepare-requires
-prepare-requires c κs = search needs
+-- src/lib.rt:171:25
+enum-known-answer : tie.Need-enum-known-answer
+enum-known-answer c = search needs
 
 -- src/lib.rt:172:26
-enum-known-found : tie.Need-enum-known-found
-enum-known-found c = search needs
+enum-known-answer-2 : tie.Need-enum-known-answer-2
+enum-known-answer-2 c = search needs
 
--- src/lib.rt:173:25
-enum-known-found-2 : tie.Need-enum-known-found-2
-enum-known-found-2 c = search needs
+-- src/lib.rt:173:22
+table-b1-requires : tie.Need-table-b1-requires
+table-b1-requires c κs = search needs
 
--- src/lib.rt:175:45
+-- src/lib.rt:174:17
+test-job-requires : tie.Need-test-job-requires
+test-job-requires c κs = (c .before .table-b1 .ensures, in-order (c .before .before .before .before .before .read-record .ensures) _ (c .before .before .before .answer2 .given .1))
+
+-- src/lib.rt:176:31
+enum-known-ranged : tie.Need-enum-known-ranged
+enum-known-ranged c = search needs
+
+-- src/lib.rt:177:30
+enum-known-ranged-2 : tie.Need-enum-known-ranged-2
+enum-known-ranged-2 c = search needs
+
+-- src/lib.rt:180:64
+slice-aggregate-draw : tie.Need-slice-aggregate-draw
+slice-aggregate-draw c = search needs
+
+-- src/lib.rt:180:76
+slice-aggregate-draw-2 : tie.Need-slice-aggregate-draw-2
+slice-aggregate-draw-2 c = search needs
+
+-- src/lib.rt:180:25
+draw-requires : tie.Need-draw-requires
+draw-requires c κs = (c .before .before .before .before .before .before .before .before .table-b1 .ensures, passed-tests (c .before .before .before .before .before .before .before .before .before .before .before .before .read-record .ensures) _ (c .before .before .before .before .before .before .before .before .before .before .answer2 .given .1) (c .before .before .before .before .before .before .test-job .ensures) _ (c .before .before .before .before .ranged2 .given .1), record { levels = refl; values = refl })
+
+-- src/lib.rt:182:53
 array-share-prefix-curve : tie.Need-array-share-prefix-curve
-array-share-prefix-curve c =
-    let prepared = c .before .before .before .before .before .prepare .ensures in
-    (readied _ _ (c .before .found2 .given .0 .0) _ _ _ _ (search needs) prepared (c .before .found2 .given .1)) .fits
+array-share-prefix-curve c = search needs
 
--- src/lib.rt:175:45
+-- src/lib.rt:182:53
 slice-aggregate-fill-table : tie.Need-slice-aggregate-fill-table
-slice-aggregate-fill-table c =
-    let prepared = c .before .before .before .before .before .before .prepare .ensures in
-    sym (length-take-le _ _ ((readied _ _ (c .before .before .found2 .given .0 .0) _ _ _ _ (search needs) prepared (c .before .before .found2 .given .1)) .fits))
+slice-aggregate-fill-table c = sym (length-take-le _ _ (c .before .before .before .draw .ensures .fits))
 
--- src/lib.rt:175:63
+-- src/lib.rt:182:71
 slice-aggregate-fill-table-2 : tie.Need-slice-aggregate-fill-table-2
 slice-aggregate-fill-table-2 c = search needs
 
--- src/lib.rt:175:17
+-- src/lib.rt:182:25
 fill-table-requires : tie.Need-fill-table-requires
-fill-table-requires c κs =
-    let prepared = c .before .before .before .before .before .before .before .before .prepare .ensures in
-    let given = c .before .before .before .before .found2 .given in
-    fillable _ _ (omega arith) (readied _ _ (given .0 .0) _ _ _ _ (search needs) prepared (given .1))
+fill-table-requires c κs = fillable _ _ (omega (arith, c .before .before .before .before .before .before .before .before .before .before .before .before .before .before .before .before .before .before .before .if1 .left)) (c .before .before .before .before .before .draw .ensures)
 
 -- src/lib.rt:162:1
 returns-2 : tie.Need-returns-2
-returns-2 c =
-    let prepared = c .before .before .before .before .before .prepare .ensures in
-    back _ _ (omega arith) _ (sent-back _ _ _ _ _ _ _ prepared (c .before .found .given .1))
+returns-2 c = back _ _ (omega arith) _ (unread (c .before .before .before .read-record .ensures) _ (c .before .answer .given .1))
+
+-- src/lib.rt:162:1
+returns-3 : tie.Need-returns-3
+returns-3 c = back _ _ (omega arith) _ (sent-back (c .before .before .before .before .before .before .before .before .before .read-record .ensures) _ (c .before .before .before .before .before .before .before .answer2 .given .1) (c .before .before .before .test-job .ensures) _ (c .before .ranged .given .1))
 
 -- src/lib.rt:162:1
 same-length : tie.Need-same-length
 same-length c = search needs
 
 -- src/lib.rt:162:1
-returns-3 : tie.Need-returns-3
-returns-3 c =
-    let filling = c .before .before .before .fill-table .ensures in
-    let prepared = c .before .before .before .before .before .before .before .before .before .before .before .before .prepare .ensures in
-    let given = c .before .before .before .before .before .before .before .before .found2 .given in
-    filled _ _ (omega arith) (readied _ _ (given .0 .0) _ _ _ _ (search needs) prepared (given .1)) _ _ filling
+returns-4 : tie.Need-returns-4
+returns-4 c = filled _ _ (omega (arith, c .before .before .before .before .before .before .before .before .before .before .before .before .before .before .before .before .before .before .before .before .before .before .if1 .left)) (c .before .before .before .before .before .before .before .before .draw .ensures) _ _ (c .before .before .fill-table .ensures)
 
 pub nearest-table-spec : {M : Type 1} → statement M
 nearest-table-spec =
     tie.close
     (tie.spec
     returns
-    slice-aggregate-prepare
-    slice-aggregate-prepare-2
-    prepare-requires
-    enum-known-found
-    enum-known-found-2
+    read-record-requires
+    enum-known-answer
+    enum-known-answer-2
+    table-b1-requires
+    test-job-requires
+    enum-known-ranged
+    enum-known-ranged-2
+    slice-aggregate-draw
+    slice-aggregate-draw-2
+    draw-requires
     array-share-prefix-curve
     slice-aggregate-fill-table
     slice-aggregate-fill-table-2
     fill-table-requires
     returns-2
+    returns-3
     same-length
-    returns-3)
+    returns-4)

@@ -30,7 +30,7 @@ returns c = search needs
 
 -- src/lib.rt:501:1
 returns-2 : tie.Need-returns-2
-returns-2 c = read-none _ _ _ _ _ _ _ (sym (c .before .before .before .read-layout .ensures) ∙ c .before .found2 .given .1)
+returns-2 c = read-none _ _ (sym (c .before .before .before .read-layout .ensures) ∙ c .before .found2 .given .1) _ _ _
 
 pub read-record-spec : {M : Type 1} → statement M
 read-record-spec =

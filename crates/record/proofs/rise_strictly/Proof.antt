@@ -1,45 +1,56 @@
-use denote.Ref.{now}
-use lib.ListN.{take}
 use Prim.Native.Nat.{_-_, _≤_}
-use native.Mathlib.Numerals.{add-one}
+use mathlib.Core.Path.{sym}
 use native.Mathlib.Omega.{arith}
-use Rattle.laws.proofs.Lists.{next-of, none-after}
-use Rattle.laws.proofs.Rises.{RisesSoFar, rises-first, rises-more, rises-end}
+use Rattle.laws.proofs.Rises.{RisesSoFar, rises-first, rises-more, rises-not, rises-end}
+use Rattle.record.specs.Bytes.{word, fields}
+use Rattle.record.proofs.Fields.{fields-done, word-more}
 use Rattle.record.proofs.rise_strictly.Statement.{statement}
 use Rattle.record.proofs.rise_strictly.Tie as tie
+use Rattle.record.proofs.rise_strictly.Reads as reads
+use Rattle.record.proofs.rise_strictly.Lts as lts
+use Rattle.record.proofs.u16_at.Reads as u16-at-reads
 
 abbrev Inv-loop : tie.InvT-loop
-Inv-loop ddls n rising₀ last₀ i₀ rising last i = (1 ≤ i) × (i ≤ n) × RisesSoFar 1 (take n ddls) rising last i
+Inv-loop items n last₀ i₀ last i = (1 ≤ i) × (i ≤ n) × RisesSoFar 1 (fields 6 (word 0) n items) last i
 
 abbrev μ-loop : tie.MeasureT-loop
-μ-loop ddls n rising₀ last₀ i₀ rising last i = n - i
+μ-loop items n last₀ i₀ last i = n - i
 
-shared-slice-read-last : tie.Need-shared-slice-read-last Inv-loop μ-loop
-shared-slice-read-last c = omega arith
+-- src/lib.rt:402:9
+u16-at-requires : tie.Need-u16-at-requires Inv-loop μ-loop
+u16-at-requires c κs = omega arith
 
+-- src/lib.rt:404:5
 loop-holds : tie.Need-loop-holds Inv-loop μ-loop
-loop-holds c = (omega arith, omega arith, rises-first 1 _ _ (next-of (c .before .args .n) (now (c .before .args .ddls)) 0 0 (omega arith) (omega arith)))
+loop-holds c = (omega arith, omega arith, rises-first 1 _ _ (word-more 6 _ _ 0 _ (omega arith) (c .u16-at .ensures)))
 
-mul-ddl : tie.Need-mul-ddl Inv-loop μ-loop
-mul-ddl c = omega arith
+-- src/lib.rt:405:33
+mul-u16-at : tie.Need-mul-u16-at Inv-loop μ-loop
+mul-u16-at c = omega arith
 
-shared-slice-read-ddl : tie.Need-shared-slice-read-ddl Inv-loop μ-loop
-shared-slice-read-ddl c = omega arith
+-- src/lib.rt:405:13
+u16-at-requires-2 : tie.Need-u16-at-requires-2 Inv-loop μ-loop
+u16-at-requires-2 c κs = omega arith
 
+-- src/lib.rt:407:13
+returns : tie.Need-returns Inv-loop μ-loop
+returns c = sym (rises-not (c .before .before .before .loop .inv .2) _ (word-more 6 _ _ (c .before .before .before .loop .i) _ (c .before .before .loop-test .taken) (c .before .u16-at2 .ensures)) (omega arith))
+
+-- src/lib.rt:410:9
 add-i : tie.Need-add-i Inv-loop μ-loop
 add-i c = omega arith
 
+-- src/lib.rt:404:5
 loop-less : tie.Need-loop-less Inv-loop μ-loop
 loop-less c = omega arith
 
+-- src/lib.rt:404:5
 loop-again : tie.Need-loop-again Inv-loop μ-loop
-loop-again c =
-    let loop = c .before .before .loop in
-    let next = next-of (c .before .before .before .before .args .n) (now (c .before .before .before .before .args .ddls)) (loop .i) 0 (omega arith) (omega arith) in
-    (omega arith, omega arith, rises-more (loop .inv .2) _ _ next (rw add-one))
+loop-again c = (omega arith, omega arith, rises-more (c .before .before .before .loop .inv .2) _ (word-more 6 _ _ (c .before .before .before .loop .i) _ (c .before .before .loop-test .taken) (c .before .u16-at2 .ensures)) (omega arith))
 
-returns : tie.Need-returns Inv-loop μ-loop
-returns c = rises-end (c .before .loop .inv .2) (none-after _ _ _ (c .loop-test .left))
+-- src/lib.rt:398:1
+returns-2 : tie.Need-returns-2 Inv-loop μ-loop
+returns-2 c = sym (rises-end (c .before .loop .inv .2) (fields-done 6 (word 0) _ _ (c .before .loop .i) (c .loop-test .left)))
 
 pub rise-strictly-spec : {M : Type 1} → statement M
 rise-strictly-spec =
@@ -47,11 +58,12 @@ rise-strictly-spec =
     (tie.spec
     Inv-loop
     μ-loop
-    shared-slice-read-last
+    u16-at-requires
     loop-holds
-    mul-ddl
-    shared-slice-read-ddl
+    mul-u16-at
+    u16-at-requires-2
+    returns
     add-i
     loop-less
     loop-again
-    returns)
+    returns-2)

@@ -1,0 +1,44 @@
+-- What stands between the tests of a job and its tables: what its functions ask and promise.
+use Prim.Native.Nat.{ℕ, _+_, _-_, _≤_}
+use mathlib.Core.Path.{_≡_}
+use mathlib.Core.List.{List}
+use lib.ListN.{length, getD, take}
+use Rattle.record.specs.Sections.{sections, luminancesIn}
+use Rattle.record.specs.Tests.{answerOf}
+use Rattle.record.specs.declared.Job.{Job}
+use Rattle.record.specs.declared.Answer.the-variants.{Accepted}
+use Rattle.target.specs.declared.IndexRange.{IndexRange}
+use Rattle.engine.specs.Sound.{SoundJob, sound, soundness, roomOf, addedOf, rangeTests}
+use Rattle.engine.specs.declared.Light.{Light}
+use Rattle.engine.specs.declared.Ranged.{Ranged}
+use Rattle.engine.specs.declared.Ranged.the-variants.{Wide}
+use Rattle.engine.specs.declared.Frame.{Frame}
+
+-- the light of a job
+abbrev pub lightOf : Job → Light
+lightOf job = record { room = record { 0 = roomOf job }; added = record { 0 = addedOf job } }
+
+-- tests 8, 9 and 10 by A and the luminances of a sweep
+abbrev pub sweepTests : (added : ℕ) (luminances : List ℕ) → Ranged
+sweepTests added luminances = rangeTests (added + getD luminances 0 0) (added + getD luminances (length luminances - 1) 0)
+
+-- a record with this job passed tests 2 to 10, with these indices
+pub record PassedTests (bytes : List ℕ) (job : Job) (indices : IndexRange) : Type 0 where
+  pub accepted : answerOf bytes ≡ Accepted job
+  pub wide : sweepTests (addedOf job) (luminancesIn (sections bytes)) ≡ Wide indices
+
+-- an array for the curve, and one for the targets
+pub record Arrays (curve targets : List ℕ) : Type 0 where
+  pub levels : length curve ≡ 1024
+  pub values : length targets ≡ 256
+
+-- a record is sound: these are its indices and its frame, its curve is at the front of one array, and its targets fill the other
+pub record Drawn (bytes : List ℕ) (indices : IndexRange) (frame : Frame) (curve targets : List ℕ) : Type 0 where
+  pub job : SoundJob
+  pub is : soundness bytes ≡ sound job
+  pub range : indices ≡ job .indices
+  pub mark : frame .mark ≡ job .mark
+  pub tolerance : frame .tolerance ≡ job .accepted .settings .tolerance
+  pub fits : frame .levels ≤ length curve
+  pub levels : take (frame .levels) curve ≡ job .curve
+  pub values : targets ≡ job .targets
