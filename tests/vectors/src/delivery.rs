@@ -27,6 +27,7 @@ pub fn in_pieces(engine: &Engine, program: &Program, results: &mut Results) {
         ("6,250 bytes, one by one", &longest, 1, 0),
         ("6,250 bytes by threes", &longest, 3, 0),
         ("6,250 bytes in two pieces, with pauses", &longest, 3_125, 150),
+        ("6,250 bytes in two pieces, with a long pause", &longest, 3_125, 1_000),
         ("6,250 bytes by 1,024, with pauses", &longest, 1_024, 30),
         ("6,250 bytes and one after a pause", &more[..BUFFER].to_vec(), BUFFER - 1, 100),
         ("26,250 bytes by 4,096, with pauses", &more, 4_096, 20),

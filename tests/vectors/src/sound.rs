@@ -3,7 +3,8 @@ use reference::engine::Engine;
 use reference::record::Record;
 
 use crate::jobs::{
-    at_limit, changed, checked, checked_off_by, display, exactly, full, longest, small, CONTACT, PRIMARY, SECONDARY, TELESCOPIC,
+    at_limit, changed, checked, checked_but_for, checked_off_by, display, exactly, full, longest, small, CONTACT, PRIMARY, SECONDARY,
+    TELESCOPIC,
 };
 use crate::vector::Vector;
 
@@ -144,6 +145,9 @@ fn exact(engine: &Engine) -> Vec<Vector> {
     let tied = changed(exact(9, &[], 1), |record| {
         (1..511).for_each(|d| record.luminances[d] = if d % 2 == 0 { targets[d / 2] - 5 } else { targets[d / 2] + 5 });
     });
+    let last = changed(exact(10, &[], 0), |record| {
+        (0..1_024).for_each(|d| record.luminances[d] = targets[if d < 1_022 { d * 253 / 1_021 } else { d - 768 }]);
+    });
     let allowed = targets[128] / 1_000;
     let [above, below] = [targets[128] + allowed, targets[128] - allowed]
         .map(|luminance| changed(exact(8, &[], 1), |record| record.luminances[128] = luminance));
@@ -169,6 +173,12 @@ fn exact(engine: &Engine) -> Vec<Vector> {
             exact(10, &[3, 1, 4, 1, 5, 9, 2, 6], 0),
             &["even 0", "0 0 0", "1 5 5", "254 1019 1019", "255 1023 1023"],
         ),
+        vector(
+            "exact-last",
+            "10 bits, one level each at the last two targets, no error allowed",
+            last,
+            &["even 0", "253 1021 1021", "254 1022 1022", "255 1023 1023"],
+        ),
         vector("nearly-exact", "a level at each target but for one: a small worst step", nearly, &[]),
         vector("error-above", "a level as far above its target as is allowed", above, &["128 128 128"]),
         vector("error-below", "a level as far below its target as is allowed", below, &["128 128 128"]),
@@ -192,6 +202,8 @@ fn shapes(engine: &Engine) -> Vec<Vector> {
     let settings = vec![10, CONTACT, PRIMARY, 60, 60];
     let late = Record { settings, ddls: vec![0, 999, 1_023], luminances: vec![black, black, white], ..small() };
     let falling = changed(full(engine), |record| record.check.swap(8, 9));
+    let secondary = changed(full(engine), |record| record.settings[2] = SECONDARY);
+    let one_falls = checked_but_for(secondary, engine, 8, -300);
     let unlit = changed(small(), |record| record.lamps = vec![0; 8]);
     let bright = Record { lamps: vec![2_000; 8], ..lit(CONTACT, 0, 1_000, [10_000, engine.gsdf.brightest() - 16_000_000]) };
     vec![
@@ -202,6 +214,12 @@ fn shapes(engine: &Engine) -> Vec<Vector> {
         Vector::sound("plateaus", "9 bits, every level read, equal ones in the shadows", &plateaus, &["check none"]),
         Vector::sound("longest-report", "10 bits, nearly all entries of four digits", &late, &["0 0 0", "check none"]),
         Vector::sound("falling-patches", "two patches that fall", &falling, &["room high", "check fail"]),
+        Vector::sound(
+            "falling-pair",
+            "secondary class, one pair of patches that falls, all others as they may be",
+            &one_falls,
+            &["check fail"],
+        ),
         Vector::sound("as-expected", "patches as they are expected", &checked(small(), engine), &["room low", "check pass"]),
         Vector::sound("lamps-of-0", "8 lamps without light", &unlit, &["room low", "check none"]),
         Vector::sound("brightest-room", "8 lamps of 2,000 lux, the largest reflectance", &bright, &["room high", "check none"]),
