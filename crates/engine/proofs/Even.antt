@@ -17,7 +17,7 @@ use Rattle.engine.specs.Sound.{unsound, soundness, IsSound}
 use Rattle.engine.specs.Even.{givenBy, outcomeAnswer, tooLittle, evenAnswer, evenLent, Enough, EvenPromise}
 use Rattle.target.specs.declared.IndexRange.{IndexRange}
 use Rattle.engine.specs.Drawing.{Drawn}
-use Rattle.engine.specs.declared.Frame.{Frame}
+use Rattle.record.specs.declared.Job.{Job}
 use Rattle.engine.specs.declared.EvenAnswer.{EvenAnswer}
 use Rattle.engine.specs.declared.EvenAnswer.the-variants.{Refused}
 use Rattle.engine.proofs.Clashes.{table-refused}
@@ -50,34 +50,30 @@ module _ (bytes before words : List ℕ) where
     even-back r e =
         unchanged r (simp (long, e)) (simp (long, e))
 
-    module _ {indices : IndexRange} {f : Frame} {curve targets : List ℕ} (r : Drawn bytes indices f curve targets) where
-      known : IsSound (r .job)
-      known = sound-job bytes (r .job) (r .is)
-
-      given-is : given (take (f .levels) curve) targets (f .tolerance) ≡ givenBy (r .job)
-      given-is = rw (r .levels, r .values, r .tolerance)
-
+    module _ {job : Job} {indices : IndexRange} {levels : ℕ} {curve targets : List ℕ} (d : Drawn bytes job indices levels curve targets) where
       pub fill-asks : (starts ends : List ℕ) → length starts ≡ 256 → length ends ≡ 256
-          → FillAsks (given (take (f .levels) curve) targets (f .tolerance)) starts ends before words
-      fill-asks starts ends n m = rw given-is (record {
-        lent = record {
-          workable = workable (known);
-          entries-fit = omega (arith, known .values, enough .entries);
-          rows-fit = omega (arith, known .values, enough .words);
-        };
-        starts-fit = omega (arith, known .values);
-        ends-fit = omega (arith, known .values);
-      })
+          → FillAsks (given (take levels curve) targets (job .settings .tolerance)) starts ends before words
+      fill-asks starts ends n m =
+          let known = sound-job bytes _ (d .is) in
+          record {
+            lent = record {
+              workable = workable known;
+              entries-fit = omega (arith, known .values, enough .entries);
+              rows-fit = omega (arith, known .values, enough .words);
+            };
+            starts-fit = omega (arith, known .values);
+            ends-fit = omega (arith, known .values);
+          }
 
       pub even-filled : {after wordsAfter : List ℕ} {outcome : Outcome} {answer : EvenAnswer}
-          → EvenFilled (given (take (f .levels) curve) targets (f .tolerance)) before after words wordsAfter outcome → answer ≡ outcomeAnswer outcome
+          → EvenFilled (given (take levels curve) targets (job .settings .tolerance)) before after words wordsAfter outcome → answer ≡ outcomeAnswer outcome
           → EvenPromise bytes before after words wordsAfter answer
       unfolding evenAnswer evenLent
-      even-filled {after} {wordsAfter} {outcome} filled a =
-          let h : EvenFilled (givenBy (r .job)) before after words wordsAfter outcome = rw given-is at filled in
+      even-filled h a =
+          let known = sound-job bytes _ (d .is) in
           promised bytes before words
-          (a ∙ ap outcomeAnswer (h .answers) ∙ simp (long, r .is))
-          (h .table ∙ simp (long, r .is))
+          (a ∙ ap outcomeAnswer (h .answers) ∙ simp (long, d .is))
+          (h .table ∙ simp (long, d .is))
           (h .later-words .len)
           (λ i l. h .later-words .words i (omega (arith, known .values)))
-          (λ q e. words-kept (givenBy (r .job)) h q (sym a ∙ e))
+          (λ q e. words-kept _ h q (sym a ∙ e))

@@ -5,7 +5,7 @@ use mathlib.Core.List.{List}
 use Prim.Native.Nat.{ℕ, _+_, _≤_}
 use native.Mathlib.Numerals.{add-one}
 use native.Mathlib.Omega.{arith}
-use lib.ListN.{length}
+use lib.ListN.{length, getD}
 use lib.Dec.{leb}
 use mir.Facts.{and-yes, leb-yes}
 use Rattle.laws.proofs.Rises.{keeps-by-steps}
@@ -18,10 +18,13 @@ use Rattle.record.specs.declared.JobRecord.{JobRecord}
 use Rattle.record.specs.declared.Answer.the-variants.{Accepted, Refused}
 use Rattle.record.proofs.Accepted.{accepted-job}
 use Rattle.record.specs.Tests.{answerOf}
+use Rattle.curve.specs.Room.{roomMark}
 use Rattle.curve.specs.Curve.{Sweep}
+use Rattle.curve.specs.declared.RoomMark.{RoomMark}
 use Rattle.target.specs.declared.IndexRange.{IndexRange}
-use Rattle.engine.specs.Sound.{unsound, addedOf, topOf, rangeTests, measured, soundness}
-use Rattle.engine.specs.Drawing.{sweepTests, PassedTests}
+use Rattle.engine.specs.Sound.{unsound, roomOf, addedOf, topOf, rangeTests, measured, soundness}
+use Rattle.engine.specs.Drawing.{lightOf, sweepTests, PassedTests}
+use Rattle.engine.specs.declared.Light.{Light}
 use Rattle.engine.specs.declared.Ranged.{Ranged}
 use Rattle.engine.specs.declared.Ranged.the-variants.{Wide, Fault}
 use Rattle.engine.proofs.Measuring.{Measurable, climbs, faulted}
@@ -61,6 +64,11 @@ module _ {s : List ℕ} {r : JobRecord} (h : ReadFrom s r) where
 
     pub in-order : r .first .0 ≤ r .last .0
     in-order = rw (h .first, h .last) (climbs (measurable accepted) .order)
+
+    -- its room mark, by the light that is worked out from it
+    pub mark-is : {light : Light} {mark : RoomMark} → light ≡ lightOf job → mark ≡ roomMark (light .room .0) (r .first .0)
+        → mark ≡ roomMark (roomOf job) (getD (luminancesIn (sections s)) 0 0)
+    mark-is el e = e ∙ rw (el, h .first)
 
     -- by what tests 8, 9 and 10 find
     module _ {x : Ranged} (t : x ≡ rangeTests (addedOf job + r .first .0) (addedOf job + r .last .0)) where

@@ -1,4 +1,4 @@
--- What stands between the tests of a job and its tables: what its functions ask and promise.
+-- What stands between tests 2 to 10 of a job and its tables: what its functions ask and promise.
 use Prim.Native.Nat.{ℕ, _+_, _-_, _≤_}
 use mathlib.Core.Path.{_≡_}
 use mathlib.Core.List.{List}
@@ -7,12 +7,12 @@ use Rattle.record.specs.Sections.{sections, luminancesIn}
 use Rattle.record.specs.Tests.{answerOf}
 use Rattle.record.specs.declared.Job.{Job}
 use Rattle.record.specs.declared.Answer.the-variants.{Accepted}
+use Rattle.curve.specs.Room.{roomMark}
 use Rattle.target.specs.declared.IndexRange.{IndexRange}
-use Rattle.engine.specs.Sound.{SoundJob, sound, soundness, roomOf, addedOf, rangeTests}
+use Rattle.engine.specs.Sound.{sound, soundness, roomOf, addedOf, rangeTests}
 use Rattle.engine.specs.declared.Light.{Light}
 use Rattle.engine.specs.declared.Ranged.{Ranged}
 use Rattle.engine.specs.declared.Ranged.the-variants.{Wide}
-use Rattle.engine.specs.declared.Frame.{Frame}
 
 -- the light of a job
 abbrev pub lightOf : Job → Light
@@ -32,13 +32,13 @@ pub record Arrays (curve targets : List ℕ) : Type 0 where
   pub levels : length curve ≡ 1024
   pub values : length targets ≡ 256
 
--- a record is sound: these are its indices and its frame, its curve is at the front of one array, and its targets fill the other
-pub record Drawn (bytes : List ℕ) (indices : IndexRange) (frame : Frame) (curve targets : List ℕ) : Type 0 where
-  pub job : SoundJob
-  pub is : soundness bytes ≡ sound job
-  pub range : indices ≡ job .indices
-  pub mark : frame .mark ≡ job .mark
-  pub tolerance : frame .tolerance ≡ job .accepted .settings .tolerance
-  pub fits : frame .levels ≤ length curve
-  pub levels : take (frame .levels) curve ≡ job .curve
-  pub values : targets ≡ job .targets
+-- a record is sound: its job, its indices, its curve at the front of an array, its targets in another, and its room mark
+pub record Drawn (bytes : List ℕ) (job : Job) (indices : IndexRange) (levels : ℕ) (curve targets : List ℕ) : Type 0 where
+  pub fits : levels ≤ length curve
+  pub is : soundness bytes ≡ sound (record {
+    accepted = job;
+    curve = take levels curve;
+    targets = targets;
+    indices = indices;
+    mark = roomMark (roomOf job) (getD (luminancesIn (sections bytes)) 0 0);
+  })

@@ -34,15 +34,6 @@ pub struct Light {
     pub added: Luminance,
 }
 
-// What a sound job gives beside its indices, its curve and its targets.
-pub struct Frame {
-    // How many drive levels the display has.
-    pub levels: usize,
-    pub mark: RoomMark,
-    // The allowed error, in thousandths of a target.
-    pub tolerance: u16,
-}
-
 // The figures of a nearest table: Jlo, Jhi and N, the room mark, and the largest error over its entries.
 pub struct NearestFigures {
     pub indices: IndexRange,
@@ -121,7 +112,7 @@ fn test_job(b1: &[u32; 1023], job: Job, first: Luminance, last: Luminance) -> Ra
     test_range(b1, added, first, last)
 }
 
-// The curve and the targets of a job that passed all tests, into the front of two arrays.
+// The curve of a job that passed tests 2 to 10 into the front of an array, and its targets into another; how many levels the curve has.
 fn draw(
     b1: &[u32; 1023],
     bytes: &[u8],
@@ -129,33 +120,24 @@ fn draw(
     indices: IndexRange,
     curve: &mut [u32],
     targets: &mut [u32],
-) -> Frame
+) -> usize
     requires { ⌜ (now b1 ≡ tableB1) × PassedTests (now bytes) job indices × Arrays (now curve) (now targets) ⌝ }
-    ensures { λ r. ⌜ Drawn (now (bytes .entry)) indices r (now (curve .exit)) (now (targets .exit)) ⌝ }
+    ensures { λ r. ⌜ Drawn (now (bytes .entry)) job indices r (now (curve .exit)) (now (targets .exit)) ⌝ }
 {
     let mut ddls = [0u16; 1024];
     let mut luminances = [0u32; 1024];
     let n = record::fill_sweep(bytes, &mut ddls, &mut luminances);
     let light = light_of(job);
     let added = light.added;
-    let room = light.room;
-    let first = luminances[0];
-    let mark = curve::room_mark(room, Luminance(first));
     let settings = job.settings;
     let depth = settings.depth;
-    let tolerance = settings.tolerance;
     let top = record::max_ddl(depth);
     curve::fill_curve(&ddls[..n], &luminances[..n], top, added, curve);
     let low = indices.low;
     let range = indices.range;
     target::fill_targets(b1, low, range, PValue(255), targets);
     let highest = top.0;
-    let levels = highest as usize + 1;
-    Frame {
-        levels: levels,
-        mark: mark,
-        tolerance: tolerance,
-    }
+    highest as usize + 1
 }
 
 // The nearest table of a record, into the front of a lent slice.
@@ -177,10 +159,11 @@ pub fn nearest_table(bytes: &[u8], table: &mut [u16]) -> NearestAnswer
                 Ranged::Wide(indices) => {
                     let mut curve = [0u32; 1024];
                     let mut targets = [0u32; 256];
-                    let frame = draw(&b1, bytes, job, indices, &mut curve, &mut targets);
-                    let levels = frame.levels;
+                    let levels = draw(&b1, bytes, job, indices, &mut curve, &mut targets);
                     let error = nearest::fill_table(&curve[..levels], &targets, table);
-                    let mark = frame.mark;
+                    let light = light_of(job);
+                    let room = light.room;
+                    let mark = curve::room_mark(room, found.first);
                     NearestAnswer::Made(NearestFigures {
                         indices: indices,
                         mark: mark,
@@ -227,9 +210,9 @@ pub fn even_table(bytes: &[u8], table: &mut [u16], work: &mut [u32]) -> EvenAnsw
                 Ranged::Wide(indices) => {
                     let mut curve = [0u32; 1024];
                     let mut targets = [0u32; 256];
-                    let frame = draw(&b1, bytes, job, indices, &mut curve, &mut targets);
-                    let levels = frame.levels;
-                    let tolerance = frame.tolerance;
+                    let levels = draw(&b1, bytes, job, indices, &mut curve, &mut targets);
+                    let settings = job.settings;
+                    let tolerance = settings.tolerance;
                     let mut starts = [0u16; 256];
                     let mut ends = [0u16; 256];
                     let outcome = even::fill_table(
@@ -267,7 +250,7 @@ fn contrast_answer(contrast: Contrast) -> CheckAnswer
     }
 }
 
-// The check of a job that passed all tests; the m readings of the check are at the front of a slice.
+// The check of a job that passed tests 2 to 10; the m readings of the check are at the front of a slice.
 fn check_job(
     b1: &[u32; 1023],
     job: Job,

@@ -52,7 +52,7 @@ module _ (w n : ℕ) (s : List ℕ) (i x : ℕ) (h : i < n) where
   long-first e y = long-at 0 (e ∙ ap (λ (k : ℕ). long k s) (sym (add-zero (i * w)))) y
 
   -- what is left of the fields at place i, with the one there
-  next-is : (f : List ℕ → ℕ) → x ≡ getD (fields w f n s) i 0 → drop i (fields w f n s) ≡ x ∷ drop (i + 1) (fields w f n s)
+  pub next-is : (f : List ℕ → ℕ) → x ≡ getD (fields w f n s) i 0 → drop i (fields w f n s) ≡ x ∷ drop (i + 1) (fields w f n s)
   next-is f e = fields-more w f n s i h ∙ ap (λ (y : ℕ). y ∷ drop (i + 1) (fields w f n s)) (sym (field-at w f n s i 0 h) ∙ sym e)
 
   pub word-more : x ≡ word (i * w) s → drop i (fields w (word 0) n s) ≡ x ∷ drop (i + 1) (fields w (word 0) n s)

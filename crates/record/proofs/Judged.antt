@@ -75,11 +75,11 @@ ranges xs t =
       tolerance = leb-yes (and-yes (leb 0 (getD xs 4 0)) (leb (getD xs 4 0) 1000) of-w .1);
     }
 
-and-left : (a b : Bool) → (a && b) ≡ true → a ≡ true
+pub and-left : (a b : Bool) → (a && b) ≡ true → a ≡ true
 and-left true b h = refl
 and-left false b h = h
 
-and-right : (a b : Bool) → (a && b) ≡ true → b ≡ true
+pub and-right : (a b : Bool) → (a && b) ≡ true → b ≡ true
 and-right true b h = h
 and-right false b h = absurd (false≢true h)
 

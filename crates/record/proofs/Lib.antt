@@ -2,6 +2,7 @@ pub mod Fields
 pub mod Scans
 pub mod Counted
 pub mod Judged
+pub mod Climbing
 pub mod Placed
 pub mod Reading
 pub mod Written

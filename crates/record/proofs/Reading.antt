@@ -8,7 +8,7 @@ use lib.Seq.{take-at, take-all}
 use native.Mathlib.Omega.{arith}
 use Rattle.units.specs.declared.Luminance.{Luminance}
 use Rattle.record.specs.Bytes.{word, long, fields}
-use Rattle.record.specs.Sections.{lists, items, rest, layoutOf, sections}
+use Rattle.record.specs.Sections.{lists, items, rest, layoutOf, sections, ddlsIn, luminancesIn}
 use Rattle.record.specs.Tests.{judged, answerOf}
 use Rattle.record.specs.Reader.{SweepItems, Judgeable, ReadFrom, SweepFilled}
 use Rattle.record.specs.declared.Section.the-variants.{Settings, Lamps, Sweep, Check}
@@ -112,14 +112,15 @@ module _ (s : List ℕ) (a b c d : ℕ) (l : layoutOf s ≡ Complete a b c d) wh
       }
 
   -- the sweep at the front of two arrays
-  pub sweep-filled : {ds ls : List ℕ} (zs₀ zs₁ : List ℕ)
-      → ds ≡ fields 6 (word 0) c sweep-part ++ zs₀
-      → ls ≡ fields 6 (long 2) c sweep-part ++ zs₁
-      → SweepFilled s c ds ls
-  sweep-filled zs₀ zs₁ ds ls = record {
+  pub sweep-filled : {ds₀ ds₁ ls₀ ls₁ : List ℕ}
+      → ds₁ ≡ fields 6 (word 0) c sweep-part ++ drop c ds₀
+      → ls₁ ≡ fields 6 (long 2) c sweep-part ++ drop c ls₀
+      → SweepFilled s c ds₀ ds₁ ls₀ ls₁
+  sweep-filled ds ls = record {
     readings = rw (lists-of, fields-length);
-    ddls-are = rw lists-of (ap (take c) ds ∙ front 6 (word 0) c sweep-part zs₀);
-    luminances-are = rw lists-of (ap (take c) ls ∙ front 6 (long 2) c sweep-part zs₁);
+    pairs = rw lists-of (fields-length 6 (long 2) c sweep-part ∙ sym (fields-length 6 (word 0) c sweep-part));
+    ddls = rw lists-of ds;
+    luminances = rw lists-of ls;
   }
 
 -- a record that cannot be read has nothing in its lists
@@ -139,6 +140,14 @@ module _ (s : List ℕ) (r : Refusal) (e : layoutOf s ≡ Broken r) where
     check = rw e;
   }
 
-  pub none-filled : (ds ls : List ℕ) → SweepFilled s 0 ds ls
+  pub none-filled : (ds ls : List ℕ) → SweepFilled s 0 ds ds ls ls
   unfolding sections
-  none-filled ds ls = record { readings = rw e; ddls-are = rw e; luminances-are = rw e }
+  none-filled ds ls = record { readings = rw e; pairs = rw e; ddls = rw e; luminances = rw e }
+
+-- a sweep that fills the fronts of two arrays stands there
+pub sweep-front : {s : List ℕ} {n : ℕ} {ddls₀ ddls₁ luminances₀ luminances₁ : List ℕ} → SweepFilled s n ddls₀ ddls₁ luminances₀ luminances₁
+    → (take n ddls₁ ≡ ddlsIn (sections s)) × (take n luminances₁ ≡ luminancesIn (sections s))
+sweep-front {s = s} {n = n} {ddls₀ = ddls₀} {luminances₀ = luminances₀} f = (
+  ap (take n) (f .ddls) ∙ take-at (ddlsIn (sections s)) (drop n ddls₀) n (sym (f .readings)),
+  ap (take n) (f .luminances) ∙ take-at (luminancesIn (sections s)) (drop n luminances₀) n (f .pairs ∙ sym (f .readings)),
+)

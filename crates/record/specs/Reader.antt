@@ -1,8 +1,11 @@
--- What the readers of a record promise.
-use Prim.Native.Nat.{ℕ, _-_, _*_, _≤_}
-use mathlib.Core.List.{List}
+-- What the readers of a record ask and promise.
+use Prim.Native.Nat.{ℕ, _+_, _-_, _*_, _≤_}
+use mathlib.Core.List.{List, _++_}
+use mathlib.Core.Bool.{Bool, _&&_}
 use mathlib.Core.Path.{_≡_}
-use lib.ListN.{length, take, getD}
+use lib.ListN.{length, take, drop, getD}
+use lib.Dec.{leb}
+use Rattle.record.specs.Bytes.{word, long, fields}
 use Rattle.record.specs.Sections.{sections, settingsIn, lampsIn, ddlsIn, luminancesIn, checkIn}
 use Rattle.record.specs.Tests.{answerOf}
 use Rattle.record.specs.declared.JobRecord.{JobRecord}
@@ -12,6 +15,12 @@ pub record SweepItems (items : List ℕ) (n : ℕ) : Type 0 where
   pub some : 1 ≤ n
   pub most : n ≤ 1024
   pub whole : length items ≡ n * 6
+
+-- of n readings, reading i has a higher level than the one before it, and no lower luminance
+abbrev pub stepsUp : (n : ℕ) (items : List ℕ) (i : ℕ) → Bool
+stepsUp n items i =
+    leb (getD (fields 6 (word 0) n items) (i - 1) 0 + 1) (getD (fields 6 (word 0) n items) i 0)
+    && leb (getD (fields 6 (long 2) n items) (i - 1) 0 + 0) (getD (fields 6 (long 2) n items) i 0)
 
 -- what the tests ask of what they are given: the settings, m lamps, n readings
 pub record Judgeable (settings lamps : List ℕ) (m : ℕ) (items : List ℕ) (n : ℕ) : Type 0 where
@@ -32,8 +41,9 @@ pub record ReadFrom (s : List ℕ) (r : JobRecord) : Type 0 where
   pub patches : r .patches ≡ length (checkIn (sections s))
   pub check : take (r .patches) (r .check) ≡ checkIn (sections s)
 
--- the n readings of the bytes s, at the front of two arrays
-pub record SweepFilled (s : List ℕ) (n : ℕ) (ddls luminances : List ℕ) : Type 0 where
+-- the n readings of the bytes s go to the front of two arrays, which are as they were after them
+pub record SweepFilled (s : List ℕ) (n : ℕ) (ddls₀ ddls₁ luminances₀ luminances₁ : List ℕ) : Type 0 where
   pub readings : n ≡ length (ddlsIn (sections s))
-  pub ddls-are : take n ddls ≡ ddlsIn (sections s)
-  pub luminances-are : take n luminances ≡ luminancesIn (sections s)
+  pub pairs : length (luminancesIn (sections s)) ≡ length (ddlsIn (sections s))
+  pub ddls : ddls₁ ≡ ddlsIn (sections s) ++ drop n ddls₀
+  pub luminances : luminances₁ ≡ luminancesIn (sections s) ++ drop n luminances₀

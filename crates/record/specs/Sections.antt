@@ -89,7 +89,7 @@ listsAt s (Complete a b c d) =
 unfoldable pub sections : List ℕ → Sections
 sections s = listsAt s (layoutOf s)
 
--- each list of a record; empty where its sections cannot be read
+-- each list of a record; empty where it is refused with 2 to 4
 abbrev pub settingsIn : Sections → List ℕ
 settingsIn (lists st la dd lu ch) = st
 settingsIn (unread r) = []

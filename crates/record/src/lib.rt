@@ -10,7 +10,7 @@ ghost use Rattle.record.specs.Refusals.{refusalNumber};
 ghost use Rattle.record.specs.Bytes.{word, long, fields};
 ghost use Rattle.record.specs.Sections.{permitted, width, countOf, layoutOf};
 ghost use Rattle.record.specs.Tests.{within, meterOf, classOf, settingsInRange, settingsOf, lampsInRange, sum, maxDdl, neverFalls, judged};
-ghost use Rattle.record.specs.Reader.{SweepItems, Judgeable, ReadFrom, SweepFilled};
+ghost use Rattle.record.specs.Reader.{SweepItems, stepsUp, Judgeable, ReadFrom, SweepFilled};
 use units::Ddl;
 use units::Luminance;
 use units::Lux;
@@ -104,9 +104,9 @@ pub enum Answer {
     Refused(Refusal),
 }
 
-// The answer, and beside it what every record holds whose sections are complete: `given` settings, `sources` lamps and `patches` of the check,
-// each at the front of its array, and of the sweep the first and the last luminance; `fill_sweep` gives all of it. The numbers are 0 where
-// the sections are not complete.
+// The answer, and beside it what every record holds that is not refused with 2 to 4: `given` settings, `sources` lamps and `patches` of the
+// check, each at the front of its array, and of its sweep the first and the last luminance; `fill_sweep` gives the whole sweep. Of any other
+// record the three counts and both luminances are 0.
 pub struct JobRecord {
     pub answer: Answer,
     pub given: usize,
@@ -382,7 +382,7 @@ pub fn max_ddl(depth: u16) -> Ddl
     Ddl(1023)
 }
 
-// The first and the last level of a sweep.
+// Whether a sweep begins at level 0 and ends at the highest.
 fn ends_span(items: &[u8], n: usize, top: Ddl) -> bool
     requires { ⌜ SweepItems (now items) n ⌝ }
     ensures { λ r. ⌜ r ≡ (eqb (getD (fields 6 (word 0) n (now (items .entry))) 0 0) 0 && eqb (getD (fields 6 (word 0) n (now (items .entry))) (n - 1) 0) (top .0)) ⌝ }
@@ -393,7 +393,7 @@ fn ends_span(items: &[u8], n: usize, top: Ddl) -> bool
     (first == 0) & (last == highest)
 }
 
-// Each level is above the one before it.
+// Whether each level is above the one before it.
 fn rise_strictly(items: &[u8], n: usize) -> bool
     requires { ⌜ SweepItems (now items) n ⌝ }
     ensures { λ r. ⌜ r ≡ risesBy 1 (fields 6 (word 0) n (now (items .entry))) ⌝ }
@@ -411,27 +411,34 @@ fn rise_strictly(items: &[u8], n: usize) -> bool
     true
 }
 
-// The same, and no luminance is below the one before it: both in one walk over the sweep where it lies.
+// Whether reading i has a higher level than the one before it, and no lower luminance.
+fn steps_up(items: &[u8], n: usize, i: usize) -> bool
+    requires { ⌜ SweepItems (now items) n × (1 ≤ i) × (i < n) ⌝ }
+    ensures { λ r. ⌜ r ≡ stepsUp n (now (items .entry)) i ⌝ }
+{
+    let at = i * 6;
+    let below = u16_at(items, at - 6);
+    let ddl = u16_at(items, at);
+    let darker = u32_at(items, at - 4);
+    let luminance = u32_at(items, at + 2);
+    (below < ddl) & (darker <= luminance)
+}
+
+// Whether all readings step up: tests 6 and 7 in one walk over the sweep where it lies, two readings at a time, which halves the branches.
 fn climb(items: &[u8], n: usize) -> bool
     requires { ⌜ SweepItems (now items) n ⌝ }
     ensures { λ r. ⌜ r ≡ (risesBy 1 (fields 6 (word 0) n (now (items .entry))) && neverFalls (fields 6 (long 2) n (now (items .entry)))) ⌝ }
 {
-    let mut last_ddl = u16_at(items, 0);
-    let mut last_luminance = u32_at(items, 2);
     let mut i: usize = 1;
-    while i < n {
-        let at = i * 6;
-        let ddl = u16_at(items, at);
-        let luminance = u32_at(items, at + 2);
-        if ddl <= last_ddl {
+    while i + 1 < n {
+        let both = steps_up(items, n, i) & steps_up(items, n, i + 1);
+        if !both {
             return false;
         }
-        if luminance < last_luminance {
-            return false;
-        }
-        last_ddl = ddl;
-        last_luminance = luminance;
-        i += 1;
+        i += 2;
+    }
+    if i < n {
+        return steps_up(items, n, i);
     }
     true
 }
@@ -454,6 +461,7 @@ fn judge(settings: &[u16], lamps: &[u16], m: usize, sweep: &[u8], n: usize) -> A
         return Answer::Refused(Refusal::DdlsDoNotSpan);
     }
     if !climb(sweep, n) {
+        // Wherever the luminances fall, levels that do not rise come first.
         if rise_strictly(sweep, n) {
             return Answer::Refused(Refusal::LuminanceFalls);
         }
@@ -475,7 +483,7 @@ fn luminance_at(items: &[u8], n: usize, i: usize) -> Luminance
     Luminance(luminance)
 }
 
-// A record whose sections are complete, of a settings, b lamps, c readings and d check readings: each section's items go to its own reader.
+// A record that is laid out as it must be, with a settings, b lamps, c readings and d check readings.
 fn read_sections(bytes: &[u8], a: usize, b: usize, c: usize, d: usize) -> JobRecord
     requires { ⌜ layoutOf (now bytes) ≡ Layout.Complete a b c d ⌝ }
     ensures { λ r. ⌜ ReadFrom (now (bytes .entry)) r ⌝ }
@@ -506,7 +514,7 @@ fn read_sections(bytes: &[u8], a: usize, b: usize, c: usize, d: usize) -> JobRec
     }
 }
 
-// What a record of any bytes holds.
+// What a record of any bytes holds, but for the inner readings of its sweep.
 pub fn read_record(bytes: &[u8]) -> JobRecord
     ensures { λ r. ⌜ ReadFrom (now (bytes .entry)) r ⌝ }
 {
@@ -530,7 +538,7 @@ pub fn read_record(bytes: &[u8]) -> JobRecord
 // The sweep of a record of any bytes, into the front of two arrays; how many readings it has.
 pub fn fill_sweep(bytes: &[u8], ddls: &mut [u16], luminances: &mut [u32]) -> usize
     requires { ⌜ (length (now ddls) ≡ 1024) × (length (now luminances) ≡ 1024) ⌝ }
-    ensures { λ r. ⌜ SweepFilled (now (bytes .entry)) r (now (ddls .exit)) (now (luminances .exit)) ⌝ }
+    ensures { λ r. ⌜ SweepFilled (now (bytes .entry)) r (now (ddls .entry)) (now (ddls .exit)) (now (luminances .entry)) (now (luminances .exit)) ⌝ }
 {
     let found = read_layout(bytes);
     match found {

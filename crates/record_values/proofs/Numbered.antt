@@ -5,6 +5,7 @@ use mathlib.Core.List.{List}
 use mathlib.Core.Path.{_≡_, ap, _∙_}
 use Rattle.record.specs.Refusals.{refusalNumber}
 use Rattle.record.specs.Reader.{ReadFrom, SweepFilled}
+use Rattle.record.proofs.Reading.{sweep-front}
 use Rattle.record.specs.declared.Refusal.{Refusal}
 use Rattle.record.specs.declared.Job.{Job}
 use Rattle.record.specs.declared.JobRecord.{JobRecord}
@@ -30,7 +31,7 @@ pub numbers-refused : {answer : Answer} {r : Refusal} {n : ℕ} → answer ≡ R
     → record { refusal = n; depth = 0; meter = 0; class = 0; reflectance = 0; tolerance = 0; lux = 0 } ≡ numbersOf answer
 numbers-refused e f = rw (e, f)
 
-pub values-of : {s : List ℕ} {r : JobRecord} {x : Numbers} {n : ℕ} {ddls luminances : List ℕ} → ReadFrom s r → SweepFilled s n ddls luminances → x ≡ numbersOf (r .answer)
+pub values-of : {s : List ℕ} {r : JobRecord} {x : Numbers} {n : ℕ} {ddls₀ ddls luminances₀ luminances : List ℕ} → ReadFrom s r → SweepFilled s n ddls₀ ddls luminances₀ luminances → x ≡ numbersOf (r .answer)
     → ValuesOf s (record { answer = x; given = r .given; settings = r .settings; sources = r .sources; lamps = r .lamps; readings = n; ddls = ddls; luminances = luminances; patches = r .patches; check = r .check })
 values-of h f e = record {
   answer = e ∙ ap numbersOf (h .answer);
@@ -39,8 +40,8 @@ values-of h f e = record {
   sources = h .sources;
   lamps = h .lamps;
   readings = f .readings;
-  ddls = f .ddls-are;
-  luminances = f .luminances-are;
+  ddls = sweep-front f .0;
+  luminances = sweep-front f .1;
   patches = h .patches;
   check = h .check;
 }

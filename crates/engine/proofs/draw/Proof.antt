@@ -9,83 +9,74 @@ use Rattle.engine.proofs.draw.Tie as tie
 use Rattle.engine.proofs.draw.Reads as reads
 use Rattle.engine.proofs.draw.Lts as lts
 use Rattle.curve.proofs.fill_curve.Reads as fill-curve-reads
-use Rattle.curve.proofs.room_mark.Reads as room-mark-reads
 use Rattle.engine.proofs.light_of.Reads as light-of-reads
 use Rattle.record.proofs.fill_sweep.Reads as fill-sweep-reads
 use Rattle.record.proofs.max_ddl.Reads as max-ddl-reads
 use Rattle.target.proofs.fill_targets.Reads as fill-targets-reads
 
--- src/lib.rt:138:39
+-- src/lib.rt:129:39
 slice-aggregate-fill-sweep : tie.Need-slice-aggregate-fill-sweep
 slice-aggregate-fill-sweep c = search needs
 
--- src/lib.rt:138:50
+-- src/lib.rt:129:50
 slice-aggregate-fill-sweep-2 : tie.Need-slice-aggregate-fill-sweep-2
 slice-aggregate-fill-sweep-2 c = search needs
 
--- src/lib.rt:138:9
+-- src/lib.rt:129:9
 fill-sweep-requires : tie.Need-fill-sweep-requires
 fill-sweep-requires c κs = search needs
 
--- src/lib.rt:139:9
+-- src/lib.rt:130:9
 light-of-requires : tie.Need-light-of-requires
 light-of-requires c κs = search needs
 
--- src/lib.rt:142:17
-array-read-first : tie.Need-array-read-first
-array-read-first c = search needs
-
--- src/lib.rt:143:9
-room-mark-requires : tie.Need-room-mark-requires
-room-mark-requires c κs = search needs
-
--- src/lib.rt:147:9
+-- src/lib.rt:134:9
 max-ddl-requires : tie.Need-max-ddl-requires
-max-ddl-requires c κs = (job-measurable (c .before .before .before .before .before .before .before .before .before .before .before .before .before .pre .1) .depth-low, job-measurable (c .before .before .before .before .before .before .before .before .before .before .before .before .before .pre .1) .depth-high)
+max-ddl-requires c κs = (job-measurable (c .before .before .before .before .before .before .before .before .before .before .before .pre .1) .depth-low, job-measurable (c .before .before .before .before .before .before .before .before .before .before .before .pre .1) .depth-high)
 
--- src/lib.rt:148:23
+-- src/lib.rt:135:23
 array-share-prefix-ddls : tie.Need-array-share-prefix-ddls
-array-share-prefix-ddls c = ddls-fit (c .before .before .before .before .before .before .before .before .before .before .before .before .before .before .pre .1) (c .before .before .before .before .before .before .before .before .fill-sweep .ensures)
+array-share-prefix-ddls c = ddls-fit (c .before .before .before .before .before .before .before .before .before .before .before .before .pre .1) (c .before .before .before .before .before .before .fill-sweep .ensures)
 
--- src/lib.rt:148:23
+-- src/lib.rt:135:23
 slice-aggregate-fill-curve : tie.Need-slice-aggregate-fill-curve
-slice-aggregate-fill-curve c = sym (length-take-le _ _ (ddls-fit (c .before .before .before .before .before .before .before .before .before .before .before .before .before .before .before .pre .1) (c .before .before .before .before .before .before .before .before .before .fill-sweep .ensures)))
+slice-aggregate-fill-curve c = sym (length-take-le _ _ (ddls-fit (c .before .before .before .before .before .before .before .before .before .before .before .before .before .pre .1) (c .before .before .before .before .before .before .before .fill-sweep .ensures)))
 
--- src/lib.rt:148:35
+-- src/lib.rt:135:35
 array-share-prefix-luminances : tie.Need-array-share-prefix-luminances
-array-share-prefix-luminances c = luminances-fit (c .before .before .before .before .before .before .before .before .before .before .before .before .before .before .before .pre .1) (c .before .before .before .before .before .before .before .before .before .fill-sweep .ensures)
+array-share-prefix-luminances c = luminances-fit (c .before .before .before .before .before .before .before .before .before .before .before .before .before .pre .1) (c .before .before .before .before .before .before .before .fill-sweep .ensures)
 
--- src/lib.rt:148:35
+-- src/lib.rt:135:35
 slice-aggregate-fill-curve-2 : tie.Need-slice-aggregate-fill-curve-2
-slice-aggregate-fill-curve-2 c = sym (length-take-le _ _ (luminances-fit (c .before .before .before .before .before .before .before .before .before .before .before .before .before .before .before .before .pre .1) (c .before .before .before .before .before .before .before .before .before .before .fill-sweep .ensures)))
+slice-aggregate-fill-curve-2 c = sym (length-take-le _ _ (luminances-fit (c .before .before .before .before .before .before .before .before .before .before .before .before .before .before .pre .1) (c .before .before .before .before .before .before .before .before .fill-sweep .ensures)))
 
--- src/lib.rt:148:5
+-- src/lib.rt:135:5
 fill-curve-requires : tie.Need-fill-curve-requires
-fill-curve-requires c κs = job-drawable (c .before .before .before .before .before .before .before .before .before .before .before .before .before .before .before .before .before .pre .1) (c .before .before .before .before .before .before .before .before .before .before .before .fill-sweep .ensures) _ (c .before .before .before .before .before .before .before .before .light-of .ensures) _ (c .before .before .before .max-ddl .ensures) _ (c .before .before .before .before .before .before .before .before .before .before .before .before .before .before .before .before .before .pre .2 .levels)
+fill-curve-requires c κs = job-drawable (c .before .before .before .before .before .before .before .before .before .before .before .before .before .before .before .pre .1) (c .before .before .before .before .before .before .before .before .before .fill-sweep .ensures) _ (c .before .before .before .before .before .before .light-of .ensures) _ (c .before .before .before .max-ddl .ensures) _ (c .before .before .before .before .before .before .before .before .before .before .before .before .before .before .before .pre .2 .levels)
 
--- src/lib.rt:151:5
+-- src/lib.rt:138:5
 fill-targets-requires : tie.Need-fill-targets-requires
-fill-targets-requires c κs = (job-aims (c .before .before .before .before .before .before .before .before .before .before .before .before .before .before .before .before .before .before .before .before .before .before .before .pre .1) _ (c .before .before .before .before .before .before .before .before .before .before .before .before .before .before .before .before .before .before .before .before .before .before .before .pre .0), omega (arith, c .before .before .before .before .before .before .before .before .before .before .before .before .before .before .before .before .before .before .before .before .before .before .before .pre .2 .values))
+fill-targets-requires c κs = (job-aims (c .before .before .before .before .before .before .before .before .before .before .before .before .before .before .before .before .before .before .before .before .before .pre .1) _ (c .before .before .before .before .before .before .before .before .before .before .before .before .before .before .before .before .before .before .before .before .before .pre .0), omega (arith, c .before .before .before .before .before .before .before .before .before .before .before .before .before .before .before .before .before .before .before .before .before .pre .2 .values))
 
--- src/lib.rt:153:18
-cast-levels : tie.Need-cast-levels
-cast-levels c = search needs
+-- src/lib.rt:140:5
+cast-result : tie.Need-cast-result
+cast-result c = search needs
 
--- src/lib.rt:153:18
-add-levels : tie.Need-add-levels
-add-levels c = search needs
+-- src/lib.rt:140:5
+add-result : tie.Need-add-result
+add-result c = search needs
 
--- src/lib.rt:125:1
+-- src/lib.rt:116:1
 same-length : tie.Need-same-length
 same-length c = search needs
 
--- src/lib.rt:125:1
+-- src/lib.rt:116:1
 same-length-2 : tie.Need-same-length-2
 same-length-2 c = search needs
 
--- src/lib.rt:125:1
+-- src/lib.rt:116:1
 returns : tie.Need-returns
-returns c = job-drawn (c .before .before .before .before .before .before .before .before .before .before .before .before .before .before .before .before .before .before .before .before .before .before .before .before .before .before .pre .1) (c .before .before .before .before .before .before .before .before .before .before .before .before .before .before .before .before .before .before .before .before .fill-sweep .ensures) _ (c .before .before .before .before .before .before .before .before .before .before .before .before .before .before .before .before .before .light-of .ensures) _ (c .before .before .before .before .before .before .before .before .before .before .before .before .max-ddl .ensures) _ (now (c .before .before .before .before .before .before .before .before .before .before .before .before .before .before .before .before .before .before .before .before .before .before .before .before .before .before .args .targets)) (c .before .before .before .before .before .before .before .before .before .before .before .before .before .before .room-mark .ensures) (c .before .before .before .before .before .before .before .before .fill-curve .ensures) (c .before .before .fill-targets .ensures) (c .before .before .before .before .before .before .before .before .before .before .before .before .before .before .before .before .before .before .before .before .before .before .before .before .before .before .pre .2 .values)
+returns c = job-drawn (c .before .before .before .before .before .before .before .before .before .before .before .before .before .before .before .before .before .before .before .before .before .before .before .before .pre .1) (c .before .before .before .before .before .before .before .before .before .before .before .before .before .before .before .before .before .before .fill-sweep .ensures) _ (c .before .before .before .before .before .before .before .before .before .before .before .before .before .before .before .light-of .ensures) _ (c .before .before .before .before .before .before .before .before .before .before .before .before .max-ddl .ensures) _ (now (c .before .before .before .before .before .before .before .before .before .before .before .before .before .before .before .before .before .before .before .before .before .before .before .before .args .targets)) (c .before .before .before .before .before .before .before .before .fill-curve .ensures) (c .before .before .fill-targets .ensures) (c .before .before .before .before .before .before .before .before .before .before .before .before .before .before .before .before .before .before .before .before .before .before .before .before .pre .2 .values)
 
 pub draw-spec : {M : Type 1} → statement M
 draw-spec =
@@ -95,8 +86,6 @@ draw-spec =
     slice-aggregate-fill-sweep-2
     fill-sweep-requires
     light-of-requires
-    array-read-first
-    room-mark-requires
     max-ddl-requires
     array-share-prefix-ddls
     slice-aggregate-fill-curve
@@ -104,8 +93,8 @@ draw-spec =
     slice-aggregate-fill-curve-2
     fill-curve-requires
     fill-targets-requires
-    cast-levels
-    add-levels
+    cast-result
+    add-result
     same-length
     same-length-2
     returns)

@@ -85,7 +85,7 @@ same-length-2 c = search needs
 
 -- src/lib.rt:533:1
 returns : tie.Need-returns
-returns c = sweep-filled (now (c .before .before .before .before .before .before .before .before .before .before .before .before .before .before .before .args .bytes)) _ _ _ _ (sym (c .before .before .before .before .before .before .before .before .before .before .before .read-layout .ensures) ∙ c .before .before .before .before .before .before .before .before .before .found .given .1) _ _ (c .before .before .before .before .read-sweep .ensures .0) (c .before .before .before .before .read-sweep .ensures .1)
+returns c = sweep-filled (now (c .before .before .before .before .before .before .before .before .before .before .before .before .before .before .before .args .bytes)) _ _ _ _ (sym (c .before .before .before .before .before .before .before .before .before .before .before .read-layout .ensures) ∙ c .before .before .before .before .before .before .before .before .before .found .given .1) (c .before .before .before .before .read-sweep .ensures .0) (c .before .before .before .before .read-sweep .ensures .1)
 
 -- src/lib.rt:533:1
 returns-2 : tie.Need-returns-2
