@@ -4,18 +4,18 @@ use Prim.Native.Nat.{ℕ, _+_, _-_, _*_, _≤_, _<_}
 use mathlib.Core.Path.{_≡_, refl, sym, ap, subst, _∙_}
 use mathlib.Core.List.{List}
 use mathlib.Core.Bool.{Bool, true, false, _&&_}
-use lib.ListN.{getD}
+use lib.ListN.{getD, drop}
 use lib.Dec.{ltb, leb}
 use native.Mathlib.Nat.{add-zero}
 use native.Mathlib.Numerals.{add-one}
 use native.Mathlib.Omega.{arith}
 use borrow.Author.Tests.{leb-true, leb-false}
 use Rattle.laws.proofs.Cases.{by}
-use Rattle.laws.specs.Rises.{risesBy}
+use Rattle.laws.specs.Rises.{risesFrom, risesBy}
 use Rattle.laws.proofs.Rises.{RisesSoFar, rises-first, rises-more, rises-not, rises-end}
 use Rattle.record.specs.Bytes.{word, long, fields}
 use Rattle.record.specs.Tests.{neverFalls}
-use Rattle.record.specs.Reader.{stepsUp}
+use Rattle.record.specs.Reader.{stepsUp, LevelsRise, Climbed}
 use Rattle.record.proofs.Fields.{fields-done, word-at, long-at, next-is}
 use Rattle.record.proofs.Judged.{and-left, and-right, neither}
 
@@ -55,7 +55,7 @@ climbing n s = risesBy 1 (fields 6 (word 0) n s) && neverFalls (fields 6 (long 2
 
 module _ {n : ℕ} {s : List ℕ} {i : ℕ} (h : ClimbsSoFar n s i) where
   module _ (l : i < n) where
-    pub climbs-more : stepsUp n s i ≡ true → ClimbsSoFar n s (i + 1)
+    climbs-more : stepsUp n s i ≡ true → ClimbsSoFar n s (i + 1)
     climbs-more t =
         let e : i + 1 - 1 ≡ i = omega arith in
         record {
@@ -63,7 +63,7 @@ module _ {n : ℕ} {s : List ℕ} {i : ℕ} (h : ClimbsSoFar n s i) where
           luminances = rw e (rises-more (h .luminances) _ (next-is 6 n s i _ l (long 2) refl) (leb-true _ _ (and-right (rising n s i) (kept n s i) t)));
         }
 
-    pub climbs-not : stepsUp n s i ≡ false → false ≡ climbing n s
+    climbs-not : stepsUp n s i ≡ false → false ≡ climbing n s
     climbs-not t =
         by (rising n s i)
         (λ a.
@@ -71,25 +71,50 @@ module _ {n : ℕ} {s : List ℕ} {i : ℕ} (h : ClimbsSoFar n s i) where
         neither (risesBy 1 (fields 6 (word 0) n s)) _ (rises-not (h .luminances) _ (next-is 6 n s i _ l (long 2) refl) (leb-false _ _ b)))
         (λ a. rw (rises-not (h .ddls) _ (next-is 6 n s i _ l (word 0) refl) (leb-false _ _ a)))
 
-  pub climbs-end : n ≤ i → true ≡ climbing n s
+  climbs-end : n ≤ i → true ≡ climbing n s
   climbs-end l = rw (rises-end (h .ddls) (fields-done 6 (word 0) n s i l), rises-end (h .luminances) (fields-done 6 (long 2) n s i l))
 
--- two steps at a time, and the last one by itself
-module _ {n : ℕ} {s : List ℕ} {i : ℕ} (h : ClimbsSoFar n s i) where
+-- ---- the walk
+
+module _ {n : ℕ} {s : List ℕ} {i : ℕ} (some : 1 ≤ i) (most : i ≤ n) (h : ClimbsSoFar n s i) where
+  levels : LevelsRise n s i
+  levels = record { some = some; most = most; is = h .ddls .is }
+
+  -- it ends before the last reading
+  ended : i < n → false ≡ climbing n s → Climbed n s i
+  ended l f = record { levels = levels; all = λ e. absurd (omega arith); not-all = λ l. sym f }
+
+  -- or there
+  pub climbed-all : n ≤ i → Climbed n s n
+  climbed-all l =
+      let e : i ≡ n = omega arith in
+      record { levels = subst (LevelsRise n s) e levels; all = λ e. sym (climbs-end h l); not-all = λ l. absurd (omega arith) }
+
+  -- by two steps
   module _ (l : i + 1 < n) {a b : Bool} (ea : a ≡ stepsUp n s i) (eb : b ≡ stepsUp n s (i + 1)) where
     pub climbs-two : (a && b) ≡ true → ClimbsSoFar n s (i + 2)
     climbs-two t =
         let e : i + 1 + 1 ≡ i + 2 = omega arith in
         subst (ClimbsSoFar n s) e (climbs-more (climbs-more h (omega arith) (sym ea ∙ and-left a b t)) l (sym eb ∙ and-right a b t))
 
-    pub climbs-not-two : (a && b) ≡ false → false ≡ climbing n s
-    climbs-not-two t =
-        by a
+    pub climbed-two : (a && b) ≡ false → Climbed n s i
+    climbed-two t = ended (omega arith)
+        (by a
         (λ p. climbs-not (climbs-more h (omega arith) (sym ea ∙ p)) l (sym eb ∙ sym (ap (λ (x : Bool). x && b) p) ∙ t))
-        (λ p. climbs-not h (omega arith) (sym ea ∙ p))
+        (λ p. climbs-not h (omega arith) (sym ea ∙ p)))
 
-  pub climbs-last : i < n → n ≤ i + 1 → stepsUp n s i ≡ climbing n s
-  climbs-last l m =
-      by (stepsUp n s i)
-      (λ a. a ∙ climbs-end (climbs-more h l a) m)
-      (λ a. a ∙ climbs-not h l a)
+  -- and by the last one
+  module _ (l : i < n) {a : Bool} (ea : a ≡ stepsUp n s i) where
+    pub climbed-last : a ≡ false → Climbed n s i
+    climbed-last t = ended l (climbs-not h l (sym ea ∙ t))
+
+    pub climbs-last : a ≡ true → ClimbsSoFar n s (i + 1)
+    climbs-last t = climbs-more h l (sym ea ∙ t)
+
+-- ---- the levels alone, from where it ended
+
+pub levels-from : {n : ℕ} {s : List ℕ} {i : ℕ} → LevelsRise n s i → {x : ℕ} → x ≡ word ((i - 1) * 6) s → RisesSoFar 1 (fields 6 (word 0) n s) x i
+levels-from {n = n} {s = s} {i = i} h {x = x} e =
+    let some = h .some in
+    let most = h .most in
+    record { is = h .is ∙ ap (λ (y : ℕ). risesFrom 1 y (drop i (fields 6 (word 0) n s))) (sym (word-at 6 n s (i - 1) x (omega arith) e 0)) }

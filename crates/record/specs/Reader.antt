@@ -1,13 +1,14 @@
 -- What the readers of a record ask and promise.
-use Prim.Native.Nat.{ℕ, _+_, _-_, _*_, _≤_}
+use Prim.Native.Nat.{ℕ, _+_, _-_, _*_, _≤_, _<_}
 use mathlib.Core.List.{List, _++_}
-use mathlib.Core.Bool.{Bool, _&&_}
+use mathlib.Core.Bool.{Bool, true, false, _&&_}
 use mathlib.Core.Path.{_≡_}
 use lib.ListN.{length, take, drop, getD}
 use lib.Dec.{leb}
+use Rattle.laws.specs.Rises.{risesFrom, risesBy}
 use Rattle.record.specs.Bytes.{word, long, fields}
 use Rattle.record.specs.Sections.{sections, settingsIn, lampsIn, ddlsIn, luminancesIn, checkIn}
-use Rattle.record.specs.Tests.{answerOf}
+use Rattle.record.specs.Tests.{neverFalls, answerOf}
 use Rattle.record.specs.declared.JobRecord.{JobRecord}
 
 -- the bytes of n readings
@@ -21,6 +22,18 @@ abbrev pub stepsUp : (n : ℕ) (items : List ℕ) (i : ℕ) → Bool
 stepsUp n items i =
     leb (getD (fields 6 (word 0) n items) (i - 1) 0 + 1) (getD (fields 6 (word 0) n items) i 0)
     && leb (getD (fields 6 (long 2) n items) (i - 1) 0 + 0) (getD (fields 6 (long 2) n items) i 0)
+
+-- each level before place i is above the one before it
+pub record LevelsRise (n : ℕ) (items : List ℕ) (i : ℕ) : Type 0 where
+  pub some : 1 ≤ i
+  pub most : i ≤ n
+  pub is : risesBy 1 (fields 6 (word 0) n items) ≡ risesFrom 1 (getD (fields 6 (word 0) n items) (i - 1) 0) (drop i (fields 6 (word 0) n items))
+
+-- a walk over n readings ended at place i: the levels before it rise; at the end of the sweep where all readings step up, and else before it
+pub record Climbed (n : ℕ) (items : List ℕ) (i : ℕ) : Type 0 where
+  pub levels : LevelsRise n items i
+  pub all : i ≡ n → (risesBy 1 (fields 6 (word 0) n items) && neverFalls (fields 6 (long 2) n items)) ≡ true
+  pub not-all : i < n → (risesBy 1 (fields 6 (word 0) n items) && neverFalls (fields 6 (long 2) n items)) ≡ false
 
 -- what the tests ask of what they are given: the settings, m lamps, n readings
 pub record Judgeable (settings lamps : List ℕ) (m : ℕ) (items : List ℕ) (n : ℕ) : Type 0 where

@@ -10,7 +10,7 @@ ghost use Rattle.record.specs.Refusals.{refusalNumber};
 ghost use Rattle.record.specs.Bytes.{word, long, fields};
 ghost use Rattle.record.specs.Sections.{permitted, width, countOf, layoutOf};
 ghost use Rattle.record.specs.Tests.{within, meterOf, classOf, settingsInRange, settingsOf, lampsInRange, sum, maxDdl, neverFalls, judged};
-ghost use Rattle.record.specs.Reader.{SweepItems, stepsUp, Judgeable, ReadFrom, SweepFilled};
+ghost use Rattle.record.specs.Reader.{SweepItems, stepsUp, LevelsRise, Climbed, Judgeable, ReadFrom, SweepFilled};
 use units::Ddl;
 use units::Luminance;
 use units::Lux;
@@ -393,24 +393,6 @@ fn ends_span(items: &[u8], n: usize, top: Ddl) -> bool
     (first == 0) & (last == highest)
 }
 
-// Whether each level is above the one before it.
-fn rise_strictly(items: &[u8], n: usize) -> bool
-    requires { ⌜ SweepItems (now items) n ⌝ }
-    ensures { λ r. ⌜ r ≡ risesBy 1 (fields 6 (word 0) n (now (items .entry))) ⌝ }
-{
-    let mut last = u16_at(items, 0);
-    let mut i: usize = 1;
-    while i < n {
-        let ddl = u16_at(items, i * 6);
-        if ddl <= last {
-            return false;
-        }
-        last = ddl;
-        i += 1;
-    }
-    true
-}
-
 // Whether reading i has a higher level than the one before it, and no lower luminance.
 fn steps_up(items: &[u8], n: usize, i: usize) -> bool
     requires { ⌜ SweepItems (now items) n × (1 ≤ i) × (i < n) ⌝ }
@@ -424,21 +406,42 @@ fn steps_up(items: &[u8], n: usize, i: usize) -> bool
     (below < ddl) & (darker <= luminance)
 }
 
-// Whether all readings step up: tests 6 and 7 in one walk over the sweep where it lies, two readings at a time, which halves the branches.
-fn climb(items: &[u8], n: usize) -> bool
+// Tests 6 and 7 in one walk over the sweep where it lies, two readings at a time, which halves the branches: n where all readings step up,
+// else a place before which they do.
+fn climb(items: &[u8], n: usize) -> usize
     requires { ⌜ SweepItems (now items) n ⌝ }
-    ensures { λ r. ⌜ r ≡ (risesBy 1 (fields 6 (word 0) n (now (items .entry))) && neverFalls (fields 6 (long 2) n (now (items .entry)))) ⌝ }
+    ensures { λ r. ⌜ Climbed n (now (items .entry)) r ⌝ }
 {
     let mut i: usize = 1;
     while i + 1 < n {
         let both = steps_up(items, n, i) & steps_up(items, n, i + 1);
         if !both {
-            return false;
+            return i;
         }
         i += 2;
     }
     if i < n {
-        return steps_up(items, n, i);
+        if !steps_up(items, n, i) {
+            return i;
+        }
+    }
+    n
+}
+
+// Whether each level is above the one before it, where those before place `from` are.
+fn rise_from(items: &[u8], n: usize, from: usize) -> bool
+    requires { ⌜ SweepItems (now items) n × LevelsRise n (now items) from ⌝ }
+    ensures { λ r. ⌜ r ≡ risesBy 1 (fields 6 (word 0) n (now (items .entry))) ⌝ }
+{
+    let mut last = u16_at(items, (from - 1) * 6);
+    let mut i = from;
+    while i < n {
+        let ddl = u16_at(items, i * 6);
+        if ddl <= last {
+            return false;
+        }
+        last = ddl;
+        i += 1;
     }
     true
 }
@@ -460,9 +463,10 @@ fn judge(settings: &[u16], lamps: &[u16], m: usize, sweep: &[u8], n: usize) -> A
     if !ends_span(sweep, n, top) {
         return Answer::Refused(Refusal::DdlsDoNotSpan);
     }
-    if !climb(sweep, n) {
-        // Wherever the luminances fall, levels that do not rise come first.
-        if rise_strictly(sweep, n) {
+    let climbed = climb(sweep, n);
+    if climbed < n {
+        // Levels that do not rise come first, even after a luminance that falls.
+        if rise_from(sweep, n, climbed) {
             return Answer::Refused(Refusal::LuminanceFalls);
         }
         return Answer::Refused(Refusal::DdlsDoNotSpan);

@@ -1,8 +1,7 @@
 use Prim.Native.Nat.{_-_, _≤_}
-use mathlib.Core.Path.{_∙_}
 use native.Mathlib.Omega.{arith}
 use borrow.Author.Tests.{not-true, not-false}
-use Rattle.record.proofs.Climbing.{ClimbsSoFar, climbs-first, climbs-two, climbs-not-two, climbs-last, climbs-end}
+use Rattle.record.proofs.Climbing.{ClimbsSoFar, climbs-first, climbs-two, climbed-two, climbs-last, climbed-last, climbed-all}
 use Rattle.record.proofs.climb.Statement.{statement}
 use Rattle.record.proofs.climb.Tie as tie
 use Rattle.record.proofs.climb.Reads as reads
@@ -15,53 +14,57 @@ Inv-loop items n i₀ i = (1 ≤ i) × (i ≤ n) × ClimbsSoFar n items i
 abbrev μ-loop : tie.MeasureT-loop
 μ-loop items n i₀ i = n - i
 
--- src/lib.rt:433:5
+-- src/lib.rt:416:5
 loop-holds : tie.Need-loop-holds Inv-loop μ-loop
 loop-holds c = (omega arith, c .before .pre .some, climbs-first _ _ (c .before .pre .some))
 
--- src/lib.rt:433:11
+-- src/lib.rt:416:11
 add-loop : tie.Need-add-loop Inv-loop μ-loop
 add-loop c = omega arith
 
--- src/lib.rt:434:20
+-- src/lib.rt:417:20
 steps-up-requires : tie.Need-steps-up-requires Inv-loop μ-loop
 steps-up-requires c κs = (c .before .before .before .pre, omega arith, omega arith)
 
--- src/lib.rt:434:63
+-- src/lib.rt:417:63
 add-steps-up : tie.Need-add-steps-up Inv-loop μ-loop
 add-steps-up c = omega arith
 
--- src/lib.rt:434:44
+-- src/lib.rt:417:44
 steps-up-requires-2 : tie.Need-steps-up-requires-2 Inv-loop μ-loop
 steps-up-requires-2 c κs = (c .before .before .before .before .pre, omega arith, omega arith)
 
--- src/lib.rt:436:13
+-- src/lib.rt:419:13
 returns : tie.Need-returns Inv-loop μ-loop
-returns c = climbs-not-two (c .before .before .before .before .loop .inv .2) (c .before .before .before .loop-test .taken) (c .before .before .steps-up .ensures) (c .before .steps-up2 .ensures) (not-true _ (c .if1 .taken))
+returns c = climbed-two (c .before .before .before .before .loop .inv .0) (c .before .before .before .before .loop .inv .1) (c .before .before .before .before .loop .inv .2) (c .before .before .before .loop-test .taken) (c .before .before .steps-up .ensures) (c .before .steps-up2 .ensures) (not-true _ (c .if1 .taken))
 
--- src/lib.rt:438:9
+-- src/lib.rt:421:9
 add-i : tie.Need-add-i Inv-loop μ-loop
 add-i c = omega arith
 
--- src/lib.rt:433:5
+-- src/lib.rt:416:5
 loop-less : tie.Need-loop-less Inv-loop μ-loop
 loop-less c = omega arith
 
--- src/lib.rt:433:5
+-- src/lib.rt:416:5
 loop-again : tie.Need-loop-again Inv-loop μ-loop
-loop-again c = (omega arith, omega arith, climbs-two (c .before .before .before .before .loop .inv .2) (c .before .before .before .loop-test .taken) (c .before .before .steps-up .ensures) (c .before .steps-up2 .ensures) (not-false _ (c .if1 .left)))
+loop-again c = (omega arith, omega arith, climbs-two (c .before .before .before .before .loop .inv .0) (c .before .before .before .before .loop .inv .1) (c .before .before .before .before .loop .inv .2) (c .before .before .before .loop-test .taken) (c .before .before .steps-up .ensures) (c .before .steps-up2 .ensures) (not-false _ (c .if1 .left)))
 
--- src/lib.rt:441:9
+-- src/lib.rt:424:13
 steps-up-requires-3 : tie.Need-steps-up-requires-3 Inv-loop μ-loop
 steps-up-requires-3 c κs = (c .before .before .before .before .pre, omega arith, c .if2 .taken)
 
--- src/lib.rt:441:9
+-- src/lib.rt:425:13
 returns-2 : tie.Need-returns-2 Inv-loop μ-loop
-returns-2 c = c .steps-up3 .ensures ∙ climbs-last (c .before .before .before .loop .inv .2) (c .before .if2 .taken) (omega arith)
+returns-2 c = climbed-last (c .before .before .before .before .loop .inv .0) (c .before .before .before .before .loop .inv .1) (c .before .before .before .before .loop .inv .2) (c .before .before .if2 .taken) (c .before .steps-up3 .ensures) (not-true _ (c .if3 .taken))
 
--- src/lib.rt:428:1
+-- src/lib.rt:411:1
 returns-3 : tie.Need-returns-3 Inv-loop μ-loop
-returns-3 c = climbs-end (c .before .before .loop .inv .2) (omega arith)
+returns-3 c = climbed-all (omega arith) (omega arith) (climbs-last (c .before .before .before .before .loop .inv .0) (c .before .before .before .before .loop .inv .1) (c .before .before .before .before .loop .inv .2) (c .before .before .if2 .taken) (c .before .steps-up3 .ensures) (not-false _ (c .if3 .left))) (omega arith)
+
+-- src/lib.rt:411:1
+returns-4 : tie.Need-returns-4 Inv-loop μ-loop
+returns-4 c = climbed-all (c .before .before .loop .inv .0) (c .before .before .loop .inv .1) (c .before .before .loop .inv .2) (omega arith)
 
 pub climb-spec : {M : Type 1} → statement M
 climb-spec =
@@ -80,4 +83,5 @@ climb-spec =
     loop-again
     steps-up-requires-3
     returns-2
-    returns-3)
+    returns-3
+    returns-4)
