@@ -36,7 +36,7 @@ steps-up-requires-2 c κs = (c .before .before .before .before .pre, omega arith
 
 -- src/lib.rt:419:13
 returns : tie.Need-returns Inv-loop μ-loop
-returns c = climbed-two (c .before .before .before .before .loop .inv .0) (c .before .before .before .before .loop .inv .1) (c .before .before .before .before .loop .inv .2) (c .before .before .before .loop-test .taken) (c .before .before .steps-up .ensures) (c .before .steps-up2 .ensures) (not-true _ (c .if1 .taken))
+returns c = climbed-two (c .before .before .before .before .loop .inv .0) (c .before .before .before .before .loop .inv .1) (c .before .before .before .before .loop .inv .2) (omega arith) (c .before .before .steps-up .ensures) (c .before .steps-up2 .ensures) (not-true _ (c .if1 .taken))
 
 -- src/lib.rt:421:9
 add-i : tie.Need-add-i Inv-loop μ-loop
@@ -48,7 +48,7 @@ loop-less c = omega arith
 
 -- src/lib.rt:416:5
 loop-again : tie.Need-loop-again Inv-loop μ-loop
-loop-again c = (omega arith, omega arith, climbs-two (c .before .before .before .before .loop .inv .0) (c .before .before .before .before .loop .inv .1) (c .before .before .before .before .loop .inv .2) (c .before .before .before .loop-test .taken) (c .before .before .steps-up .ensures) (c .before .steps-up2 .ensures) (not-false _ (c .if1 .left)))
+loop-again c = (omega arith, omega arith, climbs-two (c .before .before .before .before .loop .inv .0) (c .before .before .before .before .loop .inv .1) (c .before .before .before .before .loop .inv .2) (omega arith) (c .before .before .steps-up .ensures) (c .before .steps-up2 .ensures) (not-false _ (c .if1 .left)))
 
 -- src/lib.rt:424:13
 steps-up-requires-3 : tie.Need-steps-up-requires-3 Inv-loop μ-loop
