@@ -1,4 +1,4 @@
--- What the check of a job that passed tests 2 to 10 asks and promises.
+-- What the check of a job, after tests 2 to 10, asks and promises.
 use Prim.Native.Nat.{ℕ}
 use mathlib.Core.Path.{_≡_}
 use mathlib.Core.List.{List}

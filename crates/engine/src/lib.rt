@@ -250,7 +250,7 @@ fn contrast_answer(contrast: Contrast) -> CheckAnswer
     }
 }
 
-// The check of a job that passed tests 2 to 10; the m readings of the check are at the front of a slice.
+// The check of a job, after tests 2 to 10; the m readings of the check are at the front of a slice.
 fn check_job(
     b1: &[u32; 1023],
     job: Job,

@@ -34,7 +34,7 @@ keeps-by-steps xs h = record { keeps = λ i k ik l. never-falls grows i k zero-l
 
 -- ---- the test, one entry at a time, as a loop makes it
 
--- x is the entry before place i, and the test passes up to there
+-- x is the entry before place i, and the outcome of the test is that of what stands from x on
 pub record RisesSoFar (s : ℕ) (xs : List ℕ) (x i : ℕ) : Type 0 where
   pub is : risesBy s xs ≡ risesFrom s x (drop i xs)
 

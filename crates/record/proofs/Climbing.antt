@@ -19,7 +19,7 @@ use Rattle.record.specs.Reader.{stepsUp, LevelsRise, Climbed}
 use Rattle.record.proofs.Fields.{fields-done, word-at, long-at, next-is}
 use Rattle.record.proofs.Judged.{and-left, and-right, neither}
 
--- each reading before place i steps up
+-- both tests go by what stands from the reading before place i on
 pub record ClimbsSoFar (n : ℕ) (s : List ℕ) (i : ℕ) : Type 0 where
   pub ddls : RisesSoFar 1 (fields 6 (word 0) n s) (getD (fields 6 (word 0) n s) (i - 1) 0) i
   pub luminances : RisesSoFar 0 (fields 6 (long 2) n s) (getD (fields 6 (long 2) n s) (i - 1) 0) i
@@ -80,11 +80,11 @@ module _ {n : ℕ} {s : List ℕ} {i : ℕ} (some : 1 ≤ i) (most : i ≤ n) (h
   levels : LevelsRise n s i
   levels = record { some = some; most = most; is = h .ddls .is }
 
-  -- it ends before the last reading
+  -- it ends before the end of the sweep
   ended : i < n → false ≡ climbing n s → Climbed n s i
   ended l f = record { levels = levels; all = λ e. absurd (omega arith); not-all = λ l. sym f }
 
-  -- or there
+  -- or at it
   pub climbed-all : n ≤ i → Climbed n s n
   climbed-all l =
       let e : i ≡ n = omega arith in

@@ -17,19 +17,19 @@ pub record SweepItems (items : List ℕ) (n : ℕ) : Type 0 where
   pub most : n ≤ 1024
   pub whole : length items ≡ n * 6
 
--- of n readings, reading i has a higher level than the one before it, and no lower luminance
+-- of n readings, reading i, counted from 0, has a higher level than the one before it, and no lower luminance; in the form of risesFrom, with steps of 1 and 0
 abbrev pub stepsUp : (n : ℕ) (items : List ℕ) (i : ℕ) → Bool
 stepsUp n items i =
     leb (getD (fields 6 (word 0) n items) (i - 1) 0 + 1) (getD (fields 6 (word 0) n items) i 0)
     && leb (getD (fields 6 (long 2) n items) (i - 1) 0 + 0) (getD (fields 6 (long 2) n items) i 0)
 
--- each level before place i is above the one before it
+-- all levels rise where they do from the one before place i on
 pub record LevelsRise (n : ℕ) (items : List ℕ) (i : ℕ) : Type 0 where
   pub some : 1 ≤ i
   pub most : i ≤ n
   pub is : risesBy 1 (fields 6 (word 0) n items) ≡ risesFrom 1 (getD (fields 6 (word 0) n items) (i - 1) 0) (drop i (fields 6 (word 0) n items))
 
--- a walk over n readings ended at place i: the levels before it rise; at the end of the sweep where all readings step up, and else before it
+-- a walk over n readings ended at place i: at the end of the sweep where all readings step up, else before it; the levels before i need no other test
 pub record Climbed (n : ℕ) (items : List ℕ) (i : ℕ) : Type 0 where
   pub levels : LevelsRise n items i
   pub all : i ≡ n → (risesBy 1 (fields 6 (word 0) n items) && neverFalls (fields 6 (long 2) n items)) ≡ true
@@ -42,7 +42,7 @@ pub record Judgeable (settings lamps : List ℕ) (m : ℕ) (items : List ℕ) (n
   pub lamps-fit : m ≤ length lamps
   pub readings : SweepItems items n
 
--- r is read from the bytes s: its answer, and its lists as they stand before test 5, each at the front of its array, of the luminances the first and the last
+-- r is read from the bytes s: its answer, and as they stand before test 5 settings, lamps and check, each at the front of its array, and the first and the last luminance
 pub record ReadFrom (s : List ℕ) (r : JobRecord) : Type 0 where
   pub answer : r .answer ≡ answerOf s
   pub given : r .given ≡ length (settingsIn (sections s))

@@ -406,8 +406,8 @@ fn steps_up(items: &[u8], n: usize, i: usize) -> bool
     (below < ddl) & (darker <= luminance)
 }
 
-// Tests 6 and 7 in one walk over the sweep where it lies, two readings at a time, which halves the branches: n where all readings step up,
-// else a place before which they do.
+// Tests 6 and 7, but for the ends, in one walk over the sweep where it lies, two readings at a time, which halves the branches: n where all
+// readings step up, else a place before which they do.
 fn climb(items: &[u8], n: usize) -> usize
     requires { ⌜ SweepItems (now items) n ⌝ }
     ensures { λ r. ⌜ Climbed n (now (items .entry)) r ⌝ }
@@ -428,7 +428,7 @@ fn climb(items: &[u8], n: usize) -> usize
     n
 }
 
-// Whether each level is above the one before it, where those before place `from` are.
+// Whether each level is above the one before it, where those before place `from` are known to be.
 fn rise_from(items: &[u8], n: usize, from: usize) -> bool
     requires { ⌜ SweepItems (now items) n × LevelsRise n (now items) from ⌝ }
     ensures { λ r. ⌜ r ≡ risesBy 1 (fields 6 (word 0) n (now (items .entry))) ⌝ }
@@ -518,7 +518,7 @@ fn read_sections(bytes: &[u8], a: usize, b: usize, c: usize, d: usize) -> JobRec
     }
 }
 
-// What a record of any bytes holds, but for the inner readings of its sweep.
+// What a record of any bytes holds; of its sweep, the first and the last luminance.
 pub fn read_record(bytes: &[u8]) -> JobRecord
     ensures { λ r. ⌜ ReadFrom (now (bytes .entry)) r ⌝ }
 {
@@ -539,7 +539,7 @@ pub fn read_record(bytes: &[u8]) -> JobRecord
     }
 }
 
-// The sweep of a record of any bytes, into the front of two arrays; how many readings it has.
+// The sweep of a record of any bytes, into the front of two arrays; how many readings it has, 0 where the record is refused with 2 to 4.
 pub fn fill_sweep(bytes: &[u8], ddls: &mut [u16], luminances: &mut [u32]) -> usize
     requires { ⌜ (length (now ddls) ≡ 1024) × (length (now luminances) ≡ 1024) ⌝ }
     ensures { λ r. ⌜ SweepFilled (now (bytes .entry)) r (now (ddls .entry)) (now (ddls .exit)) (now (luminances .entry)) (now (luminances .exit)) ⌝ }

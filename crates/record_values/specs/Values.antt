@@ -1,4 +1,4 @@
--- The reader's result in bare numbers.
+-- The results of both readers in bare numbers.
 use Prim.Native.Nat.{ℕ}
 use mathlib.Core.List.{List}
 use mathlib.Core.Path.{_≡_}
