@@ -32,12 +32,15 @@ pub enum Contrast {
 }
 
 // n / d rounded toward minus infinity. Division rounds toward zero: below 0 it is made on −1 − n, and its quotient turned back in the same way.
+// It is one division for both signs, so that nothing waits for a sign, which no processor can guess from pair to pair.
 fn floor_div(n: i64, d: u64) -> i64
     requires { ⌜ (0 < d) × (d < 9223372036854775808) ⌝ }
     ensures { λ r. ⌜ r ≡ floorOf n d ⌝ }
 {
     let e = d as i64;
-    if n < 0 { -1 - (-1 - n) / e } else { n / e }
+    let turned = if n < 0 { -1 - n } else { n };
+    let quotient = turned / e;
+    if n < 0 { -1 - quotient } else { quotient }
 }
 
 // −1 − z has a word even where −z has none.

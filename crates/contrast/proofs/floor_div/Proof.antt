@@ -1,4 +1,7 @@
 -- Below 0, −1 less the quotient of −1 − n is the floor. Assumes nothing.
+use mathlib.Core.Path.{sym, _∙_}
+use mathlib.Core.Logic.{⊎-elim}
+use mathlib.Core.Bool.{false≢true}
 use borrow.Author.Needs.{needs}
 use mir.Syntax.{w64}
 use mir.ValLaws.{toZ-pos}
@@ -9,24 +12,29 @@ use Rattle.contrast.proofs.floor_div.Tie as tie
 cast-e : tie.Need-cast-e
 cast-e c = search needs
 
+sub-turned : tie.Need-sub-turned
+sub-turned c = search (turned-fits, word-fits)
+
+div-quotient : tie.Need-div-quotient
+div-quotient c = (c .before .pre .0, rw (toZ-pos w64 (c .before .args .d) (c .before .pre .1)) (search (quotient-fits, word-fits)))
+
 sub-result : tie.Need-sub-result
 sub-result c = search (turned-fits, word-fits)
 
-div-result : tie.Need-div-result
-div-result c = (c .before .pre .0, rw (toZ-pos w64 (c .before .args .d) (c .before .pre .1)) (search (quotient-fits, word-fits)))
-
-sub-result-2 : tie.Need-sub-result-2
-sub-result-2 c = search (turned-fits, word-fits)
-
-div-result-2 : tie.Need-div-result-2
-div-result-2 c = (c .before .pre .0, rw (toZ-pos w64 (c .before .args .d) (c .before .pre .1)) (search (quotient-fits, word-fits)))
-
+-- both tests are of n, so they agree
 returns : tie.Need-returns
-returns c = floor-below (c .before .fits .n) (c .before .pre .1) (c .if1 .taken)
+returns c =
+    ⊎-elim
+    (λ w. rw (w .1) (floor-below (c .before .before .fits .n) (c .before .before .pre .1) (c .if2 .taken)))
+    (λ w. absurd (false≢true (sym (w .0 .left) ∙ c .if2 .taken)))
+    (c .before .if1 .came)
 
 returns-2 : tie.Need-returns-2
-returns-2 c = floor-from-0 (c .before .fits .n) (c .before .pre .1) (c .if1 .left)
+returns-2 c =
+    ⊎-elim
+    (λ w. absurd (false≢true (sym (c .if2 .left) ∙ w .0 .taken)))
+    (λ w. rw (w .1) (floor-from-0 (c .before .before .fits .n) (c .before .before .pre .1) (c .if2 .left)))
+    (c .before .if1 .came)
 
 pub floor-div-spec : {M : Type 1} → statement M
-floor-div-spec =
-    tie.close (tie.spec cast-e sub-result div-result sub-result-2 div-result-2 returns returns-2)
+floor-div-spec = tie.close (tie.spec cast-e sub-turned div-quotient sub-result returns returns-2)
