@@ -15,6 +15,7 @@ use Rattle.engine.specs.Check.{checkAnswer}
 use Rattle.report.specs.Text.{text, decimal, digitsWithin}
 use Rattle.report.specs.Report.{reportOf, entries}
 use Rattle.report.specs.Facts.{ReportFacts}
+use Rattle.report.proofs.Lines.{whole-lines}
 
 -- all that the operations use of the bytes are their sections
 front : (bytes : List ℕ) (words : ℕ) → reportOf (take 6251 bytes) words ≡ reportOf bytes words
@@ -30,4 +31,4 @@ unfolding reportOf entries evenAnswer evenLent
 words-enough bytes words h = simp (le-ltb words 8192 h)
 
 pub report-facts : ReportFacts
-report-facts = record { front = front; empty = empty; words-enough = words-enough }
+report-facts = record { front = front; empty = empty; words-enough = words-enough; whole-lines = whole-lines }

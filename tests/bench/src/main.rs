@@ -25,19 +25,20 @@ mod side;
 use cases::{cases, Case, Function};
 use growth::Growth;
 use programs::Inputs;
+use records::Records;
 use side::Side;
 
 /// What the functions work on.
 struct Material {
     table: Table,
-    records: Vec<Vec<u8>>,
+    records: Records,
     growth: Growth,
     inputs: Inputs,
 }
 
 impl Material {
     fn new() -> Material {
-        let records = records::records();
+        let records = Records::new();
         let inputs = Inputs::new(&records);
         Material { table: Table::of_engine(), records, growth: Growth::new(), inputs }
     }
@@ -95,7 +96,7 @@ fn digest_of_deviations(result: &Check, deviations: &[i32; 17]) -> u32 {
 #[inline(always)]
 fn each(case: &Case, side: Side, material: &Material, lent: &mut Lent, mut take: impl FnMut(u32)) {
     let entries = material.table.entries();
-    let bytes = |&place: &u32| &material.records[place as usize][..];
+    let bytes = |&place: &u32| &material.records.list[place as usize][..];
     let inputs = case.inputs.iter();
     match (case.function, side) {
         (Function::Luminance, Side::Engine) => inputs.for_each(|&k| take(unsafe { raw::gsdf_luminance_in(entries.as_ptr(), k) })),
@@ -142,7 +143,7 @@ fn same<A: PartialEq>(other: Side, answer: impl Fn(Side, &mut Lent) -> A) -> Opt
 /// Whether the engine and another side give the result that they should for the input at place `i` of a case, and write the same.
 fn same_slices(case: &Case, other: Side, i: usize, material: &Material) -> bool {
     let place = case.inputs[i];
-    let bytes = || &material.records[place as usize][..];
+    let bytes = || &material.records.list[place as usize][..];
     match case.function {
         Function::Nearest(refusals) => {
             let number = refusals[i % refusals.len()];
@@ -213,7 +214,7 @@ fn check(cases: &[Case], material: &Material) -> bool {
     for other in [Side::Rust, Side::C] {
         let report = |side, place| material.inputs.report(side, place);
         let same = |place| report(Side::Engine, place).map_or(false, |engine| Some(engine) == report(other, place));
-        count("reports of all records", other, (0..material.records.len() as u32).all(same));
+        count("reports of records", other, material.records.for_programs.iter().all(|&place| same(place)));
     }
     println!("{passed} passed, {failed} failed");
     failed == 0
@@ -248,7 +249,7 @@ fn times(cases: &[Case], material: &Material) {
 
 fn main() {
     let material = Material::new();
-    let cases = cases();
+    let cases = cases(&material.records);
     let words: Vec<String> = std::env::args().skip(1).collect();
     let words: Vec<&str> = words.iter().map(String::as_str).collect();
     let named = |name: &str| cases.iter().find(|case| case.name == name).expect("a case's name");

@@ -3,6 +3,7 @@ use std::fs::{self, File};
 use std::path::{Path, PathBuf};
 use std::process::{Command, Stdio};
 
+use crate::records::Records;
 use crate::side::Side;
 
 /// What stands beside this program.
@@ -23,11 +24,11 @@ pub fn path(side: Side) -> PathBuf {
 pub struct Inputs(PathBuf);
 
 impl Inputs {
-    pub fn new(records: &[Vec<u8>]) -> Inputs {
+    pub fn new(records: &Records) -> Inputs {
         let inputs = Inputs(beside("records"));
         fs::create_dir_all(&inputs.0).expect("a folder for records");
-        for (place, record) in (0..).zip(records) {
-            fs::write(inputs.file(place), record).expect("a record's file");
+        for &place in &records.for_programs {
+            fs::write(inputs.file(place), &records.list[place as usize]).expect("a record's file");
         }
         inputs
     }
