@@ -20,7 +20,7 @@ pairAt ddls d = lowest (λ i. leb d (getD ddls (i + 1) 0)) (length ddls - 1)
 unfoldable pub byPair : (ddls luminances : List ℕ) (i d : ℕ) → ℕ
 byPair ddls luminances i d = interpolate (getD ddls i 0) (getD luminances i 0) (getD ddls (i + 1) 0) (getD luminances (i + 1) 0) d
 
--- F of document 01, for A, a sweep and a level
+-- F of document 01, for A, a sweep and a level from 0 to M
 unfoldable pub curveAt : (added : ℕ) (ddls luminances : List ℕ) (d : ℕ) → ℕ
 curveAt added ddls luminances d = added + byPair ddls luminances (pairAt ddls d) d
 

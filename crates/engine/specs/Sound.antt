@@ -35,7 +35,7 @@ pub record SoundJob : Type 0 where
   -- the room mark
   pub mark : RoomMark
 
--- a job is sound, or is sent back
+-- a job is sound, by tests 2 to 10, or is sent back; test 1 is of what is lent, and each operation's own
 pub data Soundness : Type 0 where
   sound : SoundJob → Soundness
   unsound : Refusal → Soundness

@@ -34,5 +34,5 @@ pub record ReportFacts : Type 0 where
   pub empty : (words : ℕ) → reportOf [] words ≡ text "refused 2\n"
   -- from 8,192 words on their number does not show
   pub words-enough : (bytes : List ℕ) (words : ℕ) → 8192 ≤ words → reportOf bytes words ≡ reportOf bytes 8192
-  -- a report is one line, for a refusal, or 260
+  -- a report is one line where an operation refuses the record (`refusedLine`), else 260 (`lines`)
   pub whole-lines : (bytes : List ℕ) (words : ℕ) → Lines 1 (reportOf bytes words) ⊎ Lines 260 (reportOf bytes words)
