@@ -6,6 +6,7 @@
 //!   bench pass CASE SIDE    one pass, for counting instructions
 //!   bench program CASE SIDE the program and the record's file of a case that runs programs
 
+use std::collections::HashSet;
 use std::time::Instant;
 
 use compare::even;
@@ -175,7 +176,11 @@ fn same_slices(case: &Case, other: Side, i: usize, material: &Material) -> bool 
             let reports = same(other, |side, _| material.inputs.report(side, place));
             reports.flatten().map_or(false, |report| report.starts_with(expected.as_bytes()))
         }
-        Function::Luminance | Function::Index | Function::Record => true,
+        Function::Record => {
+            let values = record::read(bytes());
+            values.refusal == 0 && values == in_rust::record::read(bytes())
+        }
+        Function::Luminance | Function::Index => true,
     }
 }
 
@@ -185,6 +190,15 @@ fn written(refusal: u32) -> usize {
         256
     } else {
         0
+    }
+}
+
+/// Whether a case has inputs, and 1,000 that differ where they are drawn displays.
+fn has_inputs(case: &Case) -> bool {
+    let different = case.inputs.iter().collect::<HashSet<_>>().len();
+    match case.function {
+        Function::Nearest(&[0]) | Function::Check(&[Check { refusal: 0, .. }]) => different == records::DRAWN,
+        _ => 0 < different,
     }
 }
 
@@ -208,7 +222,7 @@ fn check(cases: &[Case], material: &Material) -> bool {
         let of_engine = results(case, Side::Engine);
         for &other in &case.sides()[1..] {
             let same_slices = || (0..case.inputs.len()).all(|i| same_slices(case, other, i, material));
-            count(case.name, other, of_engine == results(case, other) && same_slices());
+            count(case.name, other, has_inputs(case) && of_engine == results(case, other) && same_slices());
         }
     }
     for other in [Side::Rust, Side::C] {

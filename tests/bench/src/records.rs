@@ -1,4 +1,5 @@
 //! The records of the cases.
+use std::collections::HashSet;
 use std::ops::Range as Places;
 
 use reference::gsdf::Gsdf;
@@ -9,7 +10,7 @@ use crate::random::Random;
 
 /// How many displays are drawn of a kind. Over one record again and again a processor soon knows the way of every branch, which it cannot
 /// know of a job that is new.
-const DRAWN: usize = 1_000;
+pub const DRAWN: usize = 1_000;
 
 /// The records, and the places at which those of each kind are.
 pub struct Records {
@@ -37,7 +38,7 @@ pub struct Records {
     pub short: Places<u32>,
     /// Depth 10, 1,024 readings, 2 lamps, a check that fails.
     pub failing: Places<u32>,
-    /// Those that programs are run on: all that are not drawn, and the first of each kind that is.
+    /// Those that programs are run on: all that are not drawn, some of which are not timed, and the first of each kind that is drawn.
     pub for_programs: Vec<u32>,
 }
 
@@ -60,8 +61,13 @@ impl Records {
         let refused = add(refused());
         let refused_checks = add(refused_checks());
         let no_bytes = add(vec![vec![]]);
+        add(spoilt_within());
+        add(bytes(&[(1, 20), (2, 30)].map(|(class, part)| one_patch_off(&gsdf, &mut random, class, part))));
         let mut draw = |depth, readings, lamps, check: &Check| {
-            add((0..DRAWN).map(|_| drawn(&gsdf, &mut random, depth, readings, lamps, check).bytes()).collect())
+            let records: Vec<Record> = (0..DRAWN).map(|_| drawn(&gsdf, &mut random, depth, readings, lamps, check)).collect();
+            let sweeps: HashSet<&Vec<u64>> = records.iter().map(|record| &record.luminances).collect();
+            assert_eq!(sweeps.len(), DRAWN, "displays that differ");
+            add(bytes(&records))
         };
         let few = draw(8, 2, 0, &|_, _| vec![]);
         let some = draw(10, 64, 8, &|_, _| vec![]);
@@ -106,9 +112,22 @@ fn passing(random: &mut Random, expected: &[u64]) -> Vec<u64> {
     expected.iter().map(|v| v - v / 200 + random.below(v / 100 + 1)).collect()
 }
 
-/// Patches are 5 % brighter and darker in turn.
-fn failing(_: &mut Random, expected: &[u64]) -> Vec<u64> {
-    (0..).zip(expected).map(|(i, v)| if i % 2 == 0 { v + v / 20 } else { v - v / 20 }).collect()
+/// Each patch is 5 % brighter or darker, as it is drawn, but for one that shows what the patch before it shows.
+fn failing(random: &mut Random, expected: &[u64]) -> Vec<u64> {
+    let mut shown: Vec<u64> = expected.iter().map(|v| if random.below(2) == 0 { v + v / 20 } else { v - v / 20 }).collect();
+    shown[9] = shown[8];
+    shown
+}
+
+/// A drawn display of a class with a check in which one patch alone is brighter than expected, by one part in so many.
+fn one_patch_off(gsdf: &Gsdf, random: &mut Random, class: u64, part: u64) -> Record {
+    let mut record = drawn(gsdf, random, 10, 52, 2, &move |_, expected| {
+        let mut shown = expected.to_vec();
+        shown[9] += shown[9] / part;
+        shown
+    });
+    record.settings[2] = class;
+    record
 }
 
 /// A sound job of a primary display with a black, a white and a room of its own; from black to white its readings rise with the square of
@@ -194,4 +213,22 @@ fn refused() -> Vec<Vec<u8>> {
 
 fn refused_checks() -> Vec<Vec<u8>> {
     vec![spoilt(|record| record.check[17] = 39_934_040), spoilt(|_| ())]
+}
+
+/// Records that fail one test each, other than by their last reading or patch; not timed.
+fn spoilt_within() -> Vec<Vec<u8>> {
+    vec![
+        spoilt(|record| record.ddls[512] = 511),
+        spoilt(|record| record.luminances[512] = 0),
+        spoilt(|record| record.check[9] = 39_934_040),
+        spoilt(|record| (record.settings[1], record.check[9]) = (1, 499)),
+        spoilt(|record| record.lamps[1] = 2_001),
+        spoilt(|record| record.settings[0] = 11),
+        spoilt(|record| record.settings[1] = 2),
+        spoilt(|record| record.settings[2] = 3),
+        spoilt(|record| record.settings[3] = 1_001),
+        spoilt(|record| record.settings.push(0)),
+        spoilt(|record| record.lamps = vec![0; 9]),
+        spoilt(|record| (record.ddls, record.luminances) = (vec![0], vec![5_000])),
+    ]
 }

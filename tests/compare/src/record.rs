@@ -1,7 +1,7 @@
 //! The job record: crate `record` through `record_values`.
 
 /// What reading a record gives.
-#[derive(Clone, Copy)]
+#[derive(Clone, Copy, PartialEq)]
 #[repr(C)]
 pub struct RecordValues {
     /// 0 for an accepted record, else its number; the settings and `lux` of a refused one are 0.
