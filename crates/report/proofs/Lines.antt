@@ -1,12 +1,12 @@
 -- Every report is whole lines.
 -- Assumes nothing.
-use Prim.Native.Nat.{ℕ, zero, suc, _+_, _≤_, _<_}
+use Prim.Native.Nat.{ℕ, zero, suc, _+_}
 use mathlib.Core.Path.{_≡_, refl, sym, ap, subst, _∙_}
 use mathlib.Core.Bool.{not}
 use mathlib.Core.List.{List, [], _∷_, _++_, append-assoc}
 use mathlib.Core.Logic.{_⊎_, inl, inr}
 use lib.Dec.{T, eqb}
-use lib.ListN.{length, getD}
+use lib.ListN.{length}
 use native.Mathlib.Omega.{arith}
 use mir.Facts.{and-yes, yes-and, no-eqb}
 use Rattle.curve.specs.declared.RoomMark.{RoomMark}
@@ -24,7 +24,7 @@ use Rattle.engine.specs.declared.CheckAnswer.{CheckAnswer}
 use Rattle.engine.specs.declared.CheckAnswer.the-variants as check
 use Rattle.report.specs.Text.{text, decimal, Digits}
 use Rattle.report.specs.Report.{refusedLine, rangeLine, roomLine, evenLine, verdictLine, unmeasuredLine, row, rows, lines, reportBy, entries, places, reportOf}
-use Rattle.report.specs.Facts.{noFeed, FirstLine, Lines}
+use Rattle.report.specs.Facts.{noFeed, Lines}
 use Rattle.report.proofs.Decimal.{decimal-rule}
 
 -- ---- bytes without a line feed
@@ -76,22 +76,22 @@ together (suc m) n xs ys f l =
 -- ---- those of a report
 
 -- a number after bytes, and a blank between numbers
-then-number : (xs : List ℕ) (n : ℕ) → T (noFeed xs) → T (noFeed (xs ++ decimal n))
-then-number xs n h = no-feed-append xs (decimal n) h (number-no-feed n)
+number-after : (xs : List ℕ) (n : ℕ) → T (noFeed xs) → T (noFeed (xs ++ decimal n))
+number-after xs n h = no-feed-append xs (decimal n) h (number-no-feed n)
 
-then-field : (xs : List ℕ) (n : ℕ) → T (noFeed xs) → T (noFeed (xs ++ text " " ++ decimal n))
+field-after : (xs : List ℕ) (n : ℕ) → T (noFeed xs) → T (noFeed (xs ++ text " " ++ decimal n))
 unfolding noFeed text
-then-field xs n h = then-number (xs ++ text " ") n (no-feed-append xs (text " ") h tt)
+field-after xs n h = number-after (xs ++ text " ") n (no-feed-append xs (text " ") h tt)
 
 words : T (noFeed (text "refused ")) × T (noFeed (text "range ")) × T (noFeed (text "even "))
 unfolding noFeed text
 words = (tt, tt, tt)
 
 refused : (n : ℕ) → Lines 1 (refusedLine n)
-refused n = one-line _ (then-number _ n (words .0))
+refused n = one-line _ (number-after _ n (words .0))
 
 range : (jlo jhi n : ℕ) → Lines 1 (rangeLine jlo jhi n)
-range jlo jhi n = one-line _ (then-field _ n (then-field _ jhi (then-number _ jlo (words .1))))
+range jlo jhi n = one-line _ (field-after _ n (field-after _ jhi (number-after _ jlo (words .1))))
 
 room : (mark : RoomMark) → Lines 1 (roomLine mark)
 unfolding noFeed text
@@ -99,7 +99,7 @@ room Low = one-line (text "room low") tt
 room High = one-line (text "room high") tt
 
 even-line : (worst : ℕ) → Lines 1 (evenLine worst)
-even-line worst = one-line _ (then-number _ worst (words .2))
+even-line worst = one-line _ (number-after _ worst (words .2))
 
 verdict : (v : Verdict) → Lines 1 (verdictLine v)
 unfolding noFeed text
@@ -111,7 +111,7 @@ unfolding noFeed text
 unmeasured = one-line (text "check none") tt
 
 one-row : (p nearest even : ℕ) → Lines 1 (row p nearest even)
-one-row p nearest even = one-line _ (then-field _ even (then-field _ nearest (number-no-feed p)))
+one-row p nearest even = one-line _ (field-after _ even (field-after _ nearest (number-no-feed p)))
 
 all-rows : (nearest even : List ℕ) (n : ℕ) → Lines n (rows nearest even n)
 unfolding Lines rows

@@ -123,7 +123,8 @@ pub record ReportPromise (bytes work buffer : List ℕ) (size : ℕ) : Type 0 wh
   pub report : take size buffer ≡ reportOf bytes (length work)
   pub outcome : ReportOutcome bytes work (take size buffer)
 
--- and of the words lent: those after the first 8,192 are as they were, and all of them where the even table is refused, as it is wherever the nearest is; after a refusal by the check alone, 12 or 13, the first 8,192 may have changed
+-- and of the words lent: those after the first 8,192 are as they were, and all of them where the even table is refused, as it is wherever the nearest is;
+-- after a refusal by the check alone, 12 or 13, the first 8,192 may have changed
 pub record WordsKept (bytes work workAfter : List ℕ) : Type 0 where
   pub size : length workAfter ≡ length work
   pub later : (i : ℕ) → 8192 ≤ i → getD workAfter i 0 ≡ getD work i 0

@@ -42,6 +42,7 @@ impl Case {
 
 const PASS: Check = Check { refusal: 0, verdict: 1 };
 const FAIL: Check = Check { refusal: 0, verdict: 2 };
+const NOT_MEASURED: Check = Check { refusal: 0, verdict: 0 };
 
 pub fn cases(records: &Records) -> Vec<Case> {
     let mut random = Random::new();
@@ -72,6 +73,8 @@ pub fn cases(records: &Records) -> Vec<Case> {
         case("check-1024", Function::Check(&[PASS]), all(&records.many)),
         case("check-52", Function::Check(&[PASS]), all(&records.short)),
         case("check-failing", Function::Check(&[FAIL]), all(&records.failing)),
+        case("check-none", Function::Check(&[NOT_MEASURED]), all(&records.some)),
+        case("check-again", Function::Check(&[PASS]), vec![records.short.start; 1_000]),
         case(
             "check-refused",
             Function::Check(&[Check { refusal: 12, verdict: 0 }, Check { refusal: 13, verdict: 0 }]),

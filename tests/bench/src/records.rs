@@ -155,8 +155,12 @@ fn display(depth: u64, readings: u64, tolerance: u64, reading: impl Fn(u64, u64)
     Record { settings: vec![depth, 0, 1, 60, tolerance], lamps: vec![], ddls, luminances, check: vec![] }
 }
 
+/// A reading that rises with the square of the level.
+fn power(ddl: u64, last: u64) -> u64 {
+    5_000 + 3_500_000 * ddl * ddl / (last * last)
+}
+
 fn common() -> [Record; 6] {
-    let power = |ddl: u64, last: u64| 5_000 + 3_500_000 * ddl * ddl / (last * last);
     let s_curve = |ddl: u64, last: u64| 8_000 + 4_000_000 * ddl * ddl * (3 * last - 2 * ddl) / (last * last * last);
     [
         display(8, 18, 200, power),
@@ -183,13 +187,12 @@ fn through_targets(gsdf: &Gsdf, above: impl Fn(u64, u64) -> u64) -> Record {
 }
 
 fn without_table(gsdf: &Gsdf) -> [Record; 2] {
-    let power = |ddl: u64, last: u64| 5_000 + 3_500_000 * ddl * ddl / (last * last);
     [display(10, 1_024, 0, power), through_targets(gsdf, |ddl, last| ddl / last)]
 }
 
 /// A job of depth 10 and 1,024 readings, spoilt.
 fn spoilt(spoil: impl Fn(&mut Record)) -> Vec<u8> {
-    let mut record = display(10, 1_024, 100, |ddl, last| 5_000 + 3_500_000 * ddl * ddl / (last * last));
+    let mut record = display(10, 1_024, 100, power);
     record.lamps = vec![10, 20];
     record.check = vec![5_000; 18];
     spoil(&mut record);
