@@ -12,6 +12,7 @@ use Rattle.target.specs.declared.IndexRange.{IndexRange}
 use Rattle.contrast.specs.declared.Verdict.the-variants.{Pass, Fail}
 use Rattle.engine.specs.Sound.{SoundJob, sound, unsound}
 use Rattle.engine.specs.declared.Ranged.the-variants.{Wide, Fault}
+use Rattle.engine.specs.declared.Tested.the-variants.{Passed, Failed}
 use Rattle.engine.specs.declared.NearestFigures.{NearestFigures}
 use Rattle.engine.specs.declared.NearestAnswer.the-variants as nearest
 use Rattle.engine.specs.declared.EvenFigures.{EvenFigures}
@@ -28,6 +29,9 @@ accepted-refused e = let z : _≡_ {A = ℕ} 0 1 = cc in omega arith
 
 pub wide-fault : {indices : IndexRange} {r : Refusal} → Wide indices ≡ Fault r → ⊥
 wide-fault e = let z : _≡_ {A = ℕ} 0 1 = cc in omega arith
+
+pub passed-failed : {r : Refusal} → Passed ≡ Failed r → ⊥
+passed-failed e = let z : _≡_ {A = ℕ} 0 1 = cc in omega arith
 
 pub sound-unsound : {job : SoundJob} {r : Refusal} → sound job ≡ unsound r → ⊥
 sound-unsound e = let z : _≡_ {A = ℕ} 0 1 = cc in omega arith
@@ -52,6 +56,9 @@ same-read e = cc
 
 pub same-fault : {q r : Refusal} → Fault q ≡ Fault r → q ≡ r
 same-fault e = cc
+
+pub same-failed : {q r : Refusal} → Failed q ≡ Failed r → q ≡ r
+same-failed e = cc
 
 pub same-unsound : {q r : Refusal} → unsound q ≡ unsound r → q ≡ r
 same-unsound e = cc

@@ -1,4 +1,4 @@
--- What the check of a job, after tests 2 to 10, asks and promises.
+-- What the check of a job asks and promises: tests 8, 9 and 10, which need no index there, and what follows them.
 use Prim.Native.Nat.{ℕ}
 use mathlib.Core.Path.{_≡_}
 use mathlib.Core.List.{List}
@@ -8,6 +8,15 @@ use lib.ListN.{length}
 use Rattle.record.specs.declared.Job.{Job}
 use Rattle.engine.specs.Check.{checkOf, placesOf}
 use Rattle.engine.specs.declared.CheckAnswer.{CheckAnswer}
+use Rattle.engine.specs.declared.Ranged.{Ranged}
+use Rattle.engine.specs.declared.Ranged.the-variants.{Wide, Fault}
+use Rattle.engine.specs.declared.Tested.{Tested}
+use Rattle.engine.specs.declared.Tested.the-variants.{Passed, Failed}
+
+-- what tests 8, 9 and 10 find, without the indices
+abbrev pub testedBy : Ranged → Tested
+testedBy (Wide indices) = Passed
+testedBy (Fault r) = Failed r
 
 -- a check of none or of 18 readings at the front of an array
 pub record CheckFront (check : List ℕ) (m : ℕ) : Type 0 where

@@ -8,7 +8,7 @@ ghost use Rattle.engine.specs.Drawing.{lightOf, PassedTests, Arrays, Dra
 ghost use Rattle.engine.specs.Nearest.{NearestPromise};
 ghost use Rattle.engine.specs.Even.{tooLittle, outcomeAnswer, EvenPromise};
 ghost use Rattle.engine.specs.Check.{limitOf, contrastAnswer, CheckPromise};
-ghost use Rattle.engine.specs.Checking.{CheckFront, JobChecked};
+ghost use Rattle.engine.specs.Checking.{testedBy, CheckFront, JobChecked};
 use contrast::Contrast;
 use contrast::Limit;
 use contrast::Verdict;
@@ -26,6 +26,12 @@ use units::PValue;
 pub enum Ranged {
     Wide(IndexRange),
     Fault(Refusal),
+}
+
+// The same without the indices, for an operation that needs none.
+pub enum Tested {
+    Passed,
+    Failed(Refusal),
 }
 
 // The light of a job's room, A0, and what of it is added to its readings, A.
@@ -231,6 +237,30 @@ pub fn even_table(bytes: &[u8], table: &mut [u16], work: &mut [u32]) -> EvenAnsw
     }
 }
 
+fn tested_by(ranged: Ranged) -> Tested
+    ensures { λ r. ⌜ r ≡ testedBy ranged ⌝ }
+{
+    match ranged {
+        Ranged::Wide(indices) => Tested::Passed,
+        Ranged::Fault(r) => Tested::Failed(r),
+    }
+}
+
+// Tests 8, 9 and 10 of an accepted job without its indices. Table B-1 is copied only for a display that is not clearly wide.
+fn test_range_alone(job: Job, first: Luminance, last: Luminance) -> Tested
+    requires { ⌜ first .0 ≤ last .0 ⌝ }
+    ensures { λ r. ⌜ r ≡ testedBy (rangeTests (addedOf job + first .0) (addedOf job + last .0)) ⌝ }
+{
+    let light = light_of(job);
+    let added = light.added;
+    if target::is_clearly_wide(added, first, last) {
+        return Tested::Passed;
+    }
+    let b1 = gsdf::table_b1();
+    let ranged = test_range(&b1, added, first, last);
+    tested_by(ranged)
+}
+
 fn limit_of(class: Class) -> Limit
     ensures { λ r. ⌜ r ≡ limitOf class ⌝ }
 {
@@ -251,14 +281,8 @@ fn contrast_answer(contrast: Contrast) -> CheckAnswer
 }
 
 // The check of a job, after tests 2 to 10; the m readings of the check are at the front of a slice.
-fn check_job(
-    b1: &[u32; 1023],
-    job: Job,
-    check: &[u32],
-    m: usize,
-    deviations: &mut [i32],
-) -> CheckAnswer
-    requires { ⌜ (now b1 ≡ tableB1) × CheckFront (now check) m × (17 ≤ length (now deviations)) ⌝ }
+fn check_job(job: Job, check: &[u32], m: usize, deviations: &mut [i32]) -> CheckAnswer
+    requires { ⌜ CheckFront (now check) m × (17 ≤ length (now deviations)) ⌝ }
     ensures { λ r. ⌜ JobChecked job (take m (now (check .entry))) r (now (deviations .entry)) (now (deviations .exit)) ⌝ }
 {
     if m == 0 {
@@ -269,7 +293,8 @@ fn check_job(
     let settings = job.settings;
     let class = settings.class;
     let limit = limit_of(class);
-    let contrast = contrast::check(b1, check, added, limit, deviations);
+    let b1 = gsdf::table_b1();
+    let contrast = contrast::check(&b1, check, added, limit, deviations);
     contrast_answer(contrast)
 }
 
@@ -285,13 +310,12 @@ pub fn contrast_check(bytes: &[u8], deviations: &mut [i32]) -> CheckAnswer
     match answer {
         Answer::Refused(r) => CheckAnswer::Refused(r),
         Answer::Accepted(job) => {
-            let b1 = gsdf::table_b1();
-            let ranged = test_job(&b1, job, found.first, found.last);
-            match ranged {
-                Ranged::Fault(r) => CheckAnswer::Refused(r),
-                Ranged::Wide(indices) => {
+            let tested = test_range_alone(job, found.first, found.last);
+            match tested {
+                Tested::Failed(r) => CheckAnswer::Refused(r),
+                Tested::Passed => {
                     let m = found.patches;
-                    check_job(&b1, job, &found.check, m, deviations)
+                    check_job(job, &found.check, m, deviations)
                 }
             }
         }

@@ -35,6 +35,14 @@ pub jnd-first : jndLuminance 1 ≡ 500
 unfolding jndLuminance tableB1
 jnd-first = refl
 
+pub jnd-200 : jndLuminance 200 ≡ 82179
+unfolding jndLuminance tableB1
+jnd-200 = refl
+
+pub jnd-300 : jndLuminance 300 ≡ 233990
+unfolding jndLuminance tableB1
+jnd-300 = refl
+
 pub jnd-last : jndLuminance 1023 ≡ 39934040
 unfolding jndLuminance tableB1
 jnd-last = refl

@@ -2,11 +2,11 @@
 use Prim.Native.Nat.{ℕ, _+_, _-_, _*_, _/_, _≤_}
 use mathlib.Core.Path.{_≡_}
 use mathlib.Core.List.{List}
-use mathlib.Core.Bool.{Bool}
-use lib.Dec.{ltb}
+use mathlib.Core.Bool.{Bool, _&&_}
+use lib.Dec.{leb, ltb}
 use Rattle.laws.specs.Fill.{tab}
 use Rattle.gsdf.specs.Table.{tableB1}
-use Rattle.gsdf.specs.DisplayFunction.{luminanceOf, indexOf, InTable}
+use Rattle.gsdf.specs.DisplayFunction.{jndLuminance, luminanceOf, indexOf, InTable}
 use Rattle.target.specs.declared.IndexRange.{IndexRange}
 
 -- Jlo, Jhi and N of document 01, by the luminances of black and white
@@ -20,6 +20,11 @@ rangeOf black white = record {
 -- N that test 10 refuses
 abbrev pub tooNarrow : (range : ℕ) → Bool
 tooNarrow range = ltb range 10000
+
+-- black from T(1) to below T(200) and white from T(300) to T(1023): tests 8, 9 and 10 let them pass, whatever their indices are
+unfoldable pub clearlyWide : (black white : ℕ) → Bool
+clearlyWide black white =
+    (leb (jndLuminance 1) black && ltb black (jndLuminance 200)) && (leb (jndLuminance 300) white && leb white (jndLuminance 1023))
 
 -- the index of P-value p, of those from 0 to top, in a range that begins at low
 unfoldable pub indexAt : (low range top p : ℕ) → ℕ

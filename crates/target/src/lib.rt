@@ -3,7 +3,7 @@ ghost use mathlib.Core.Path.{_≡_};
 ghost use mathlib.Core.List.{_++_};
 ghost use Prim.Native.Nat.{_+_, _<_, _≤_};
 ghost use lib.ListN.{length, drop};
-ghost use Rattle.target.specs.Target.{rangeOf, tooNarrow, targetAt, targetsOf, HasRange, Aims};
+ghost use Rattle.target.specs.Target.{rangeOf, tooNarrow, clearlyWide, targetAt, targetsOf, HasRange, Aims};
 use units::JndIndex;
 use units::JndRange;
 use units::Luminance;
@@ -39,6 +39,19 @@ pub fn is_too_narrow(range: JndRange) -> bool
 {
     let n = range.0;
     n < 10000
+}
+
+// Whether tests 8, 9 and 10 pass by the luminances of JND 1, 200, 300 and 1023 alone, for the first and the last reading and the light added
+// to them: most displays do, and Table B-1 need not be copied for them. A sum may need more than 32 bits.
+pub fn is_clearly_wide(added: Luminance, first: Luminance, last: Luminance) -> bool
+    ensures { λ r. ⌜ r ≡ clearlyWide (added .0 + first .0) (added .0 + last .0) ⌝ }
+{
+    let light = added.0 as u64;
+    let black = light + first.0 as u64;
+    let white = light + last.0 as u64;
+    let dark = (500 <= black) & (black < 82179);
+    let bright = (233990 <= white) & (white <= 39934040);
+    dark & bright
 }
 
 // The target of one P-value, with Table B-1 lent.

@@ -5,7 +5,8 @@ uint32_t index_of(uint32_t l) {
     uint32_t j = 1;
     for (uint32_t width = JNDS, half; 1 < width; width -= half) {
         half = width / 2;
-        j += table_b1[j + half - 1] <= l ? half : 0;
+        /* A product, since gcc makes a branch of a choice, and over many displays no processor foresees it. */
+        j += (table_b1[j + half - 1] <= l) * half;
     }
     if (j == JNDS) {
         return 100 * JNDS;

@@ -1,6 +1,7 @@
-//! Every length of the lent slice, every patch at the ends of the table and beyond, and every reflectance.
+//! Every length of the lent slice, every patch at the ends of the table and beyond, every reflectance, and ranges of the display around each limit.
 use reference::contrast::PAIRS;
 use reference::engine::Engine;
+use reference::gsdf::Gsdf;
 use reference::record::Record;
 
 use super::{expected, job, without, Answer, Lent, FAIL, PASS};
@@ -118,6 +119,40 @@ fn reflectances(reference: &Engine) -> bool {
     all.ended(2 * 1_001)
 }
 
+/// What tests 8 to 10 make of a display with this black and this white, 0 where they let it pass.
+fn number_of(gsdf: &Gsdf, black: u64, white: u64) -> u32 {
+    match () {
+        () if black < 500 => 8,
+        () if 39_934_040 < white => 9,
+        () if gsdf.index(white) < gsdf.index(black) + 10_000 => 10,
+        () => 0,
+    }
+}
+
+/// Black around T(1) and around JND 200, white around JND 300, around the least range and around T(1023): the engine knows some displays to be wide by
+/// JND 200 and 300 alone. In three rooms, with a check and without.
+fn ranges(reference: &Engine) -> bool {
+    let gsdf = &reference.gsdf;
+    let mut random = Random::new(11);
+    let mut all = Answers::new("check: every range");
+    let around = |luminance: u64| luminance - 2..=luminance + 2;
+    let fit = expected(gsdf, 20_000, 80_000);
+    let rooms: [(u64, &[u64], u64); 3] = [(0, &[], 0), (0, &[150, 250], 400), (1, &[150, 250], 0)];
+    for black in [500, gsdf.luminance(19_900), gsdf.luminance(20_000), gsdf.luminance(20_100)].into_iter().flat_map(around) {
+        let least = gsdf.luminance(gsdf.index(black.max(500)) + 10_000);
+        for white in [least, gsdf.luminance(29_900), gsdf.luminance(30_000), 39_934_040].into_iter().flat_map(around) {
+            for (meter, lamps, added) in rooms {
+                for check in [vec![], without(added, &fit)] {
+                    let mut record = job(meter, 1, lamps, check);
+                    record.luminances = vec![black - added, white - added];
+                    one(&mut all, &mut random, reference, &record, number_of(gsdf, black, white));
+                }
+            }
+        }
+    }
+    all.ended(20 * 20 * 3 * 2)
+}
+
 pub fn results(reference: &Engine) -> Vec<bool> {
-    vec![lengths(reference), patches(reference), reflectances(reference)]
+    vec![lengths(reference), patches(reference), reflectances(reference), ranges(reference)]
 }
