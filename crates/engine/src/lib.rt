@@ -247,7 +247,7 @@ fn tested_by(ranged: Ranged) -> Tested
 }
 
 // Tests 8, 9 and 10 of an accepted job without its indices. Table B-1 is copied only for a display that is not clearly wide.
-fn test_range_alone(job: Job, first: Luminance, last: Luminance) -> Tested
+fn test_without_indices(job: Job, first: Luminance, last: Luminance) -> Tested
     requires { ⌜ first .0 ≤ last .0 ⌝ }
     ensures { λ r. ⌜ r ≡ testedBy (rangeTests (addedOf job + first .0) (addedOf job + last .0)) ⌝ }
 {
@@ -310,7 +310,7 @@ pub fn contrast_check(bytes: &[u8], deviations: &mut [i32]) -> CheckAnswer
     match answer {
         Answer::Refused(r) => CheckAnswer::Refused(r),
         Answer::Accepted(job) => {
-            let tested = test_range_alone(job, found.first, found.last);
+            let tested = test_without_indices(job, found.first, found.last);
             match tested {
                 Tested::Failed(r) => CheckAnswer::Refused(r),
                 Tested::Passed => {

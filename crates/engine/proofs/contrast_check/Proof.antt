@@ -10,7 +10,7 @@ use Rattle.engine.proofs.contrast_check.Tie as tie
 use Rattle.engine.proofs.contrast_check.Reads as reads
 use Rattle.engine.proofs.contrast_check.Lts as lts
 use Rattle.engine.proofs.check_job.Reads as check-job-reads
-use Rattle.engine.proofs.test_range_alone.Reads as test-range-alone-reads
+use Rattle.engine.proofs.test_without_indices.Reads as test-without-indices-reads
 use Rattle.record.proofs.read_record.Reads as read-record-reads
 
 -- src/lib.rt:306:9
@@ -30,8 +30,8 @@ enum-known-answer-2 : tie.Need-enum-known-answer-2
 enum-known-answer-2 c = search needs
 
 -- src/lib.rt:313:17
-test-range-alone-requires : tie.Need-test-range-alone-requires
-test-range-alone-requires c κs = in-order (c .before .before .before .before .before .read-record .ensures) _ (c .before .before .before .answer2 .given .1)
+test-without-indices-requires : tie.Need-test-without-indices-requires
+test-without-indices-requires c κs = in-order (c .before .before .before .before .before .read-record .ensures) _ (c .before .before .before .answer2 .given .1)
 
 -- src/lib.rt:315:32
 enum-known-tested : tie.Need-enum-known-tested
@@ -54,7 +54,7 @@ returns-2 c = check-back _ _ (omega arith) _ (unread (c .before .before .before 
 
 -- src/lib.rt:302:1
 returns-3 : tie.Need-returns-3
-returns-3 c = check-failed _ _ (omega arith) (c .before .before .before .before .before .before .before .before .before .read-record .ensures) _ (c .before .before .before .before .before .before .before .answer2 .given .1) (c .before .before .before .test-range-alone .ensures) _ (c .before .tested .given .1)
+returns-3 c = check-failed _ _ (omega arith) (c .before .before .before .before .before .before .before .before .before .read-record .ensures) _ (c .before .before .before .before .before .before .before .answer2 .given .1) (c .before .before .before .test-without-indices .ensures) _ (c .before .tested .given .1)
 
 -- src/lib.rt:302:1
 same-length : tie.Need-same-length
@@ -62,7 +62,7 @@ same-length c = search needs
 
 -- src/lib.rt:302:1
 returns-4 : tie.Need-returns-4
-returns-4 c = check-passed _ _ (omega arith) (c .before .before .before .before .before .before .before .before .before .before .before .before .before .before .read-record .ensures) _ (c .before .before .before .before .before .before .before .before .before .before .before .before .answer2 .given .1) (c .before .before .before .before .before .before .before .before .test-range-alone .ensures) (c .before .before .before .before .before .before .enum-told .given .1) (c .before .check-job .ensures)
+returns-4 c = check-passed _ _ (omega arith) (c .before .before .before .before .before .before .before .before .before .before .before .before .before .before .read-record .ensures) _ (c .before .before .before .before .before .before .before .before .before .before .before .before .answer2 .given .1) (c .before .before .before .before .before .before .before .before .test-without-indices .ensures) (c .before .before .before .before .before .before .enum-told .given .1) (c .before .check-job .ensures)
 
 pub contrast-check-spec : {M : Type 1} → statement M
 contrast-check-spec =
@@ -72,7 +72,7 @@ contrast-check-spec =
     read-record-requires
     enum-known-answer
     enum-known-answer-2
-    test-range-alone-requires
+    test-without-indices-requires
     enum-known-tested
     enum-told
     check-job-requires

@@ -1,9 +1,9 @@
 use Rattle.engine.proofs.Tests.{tested-clear, tested-range}
 use borrow.Author.Needs.{needs}
-use Rattle.engine.proofs.test_range_alone.Statement.{statement}
-use Rattle.engine.proofs.test_range_alone.Tie as tie
-use Rattle.engine.proofs.test_range_alone.Reads as reads
-use Rattle.engine.proofs.test_range_alone.Lts as lts
+use Rattle.engine.proofs.test_without_indices.Statement.{statement}
+use Rattle.engine.proofs.test_without_indices.Tie as tie
+use Rattle.engine.proofs.test_without_indices.Reads as reads
+use Rattle.engine.proofs.test_without_indices.Lts as lts
 use Rattle.engine.proofs.light_of.Reads as light-of-reads
 use Rattle.engine.proofs.test_range.Reads as test-range-reads
 use Rattle.engine.proofs.tested_by.Reads as tested-by-reads
@@ -38,8 +38,8 @@ tested-by-requires c κs = search needs
 returns-2 : tie.Need-returns-2
 returns-2 c = tested-range (c .before .before .before .before .before .before .before .before .args .job) _ _ (c .before .before .before .before .before .before .before .light-of .ensures) (c .before .test-range .ensures) (c .tested-by .ensures)
 
-pub test-range-alone-spec : {M : Type 1} → statement M
-test-range-alone-spec =
+pub test-without-indices-spec : {M : Type 1} → statement M
+test-without-indices-spec =
     tie.close
     (tie.spec
     light-of-requires
