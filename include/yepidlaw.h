@@ -6,7 +6,8 @@
  *
  * Luminances are in units of 0.0001 cd/m², JND indices in hundredths of a JND, deviations in parts per thousand.
  *
- * A call that is refused gives the first of these numbers that holds, and changes nothing that was lent:
+ * A call that is refused gives one of these numbers and changes nothing that was lent: the first that holds, but of 2 and 3 the one that is
+ * met first when the bytes are read from front to back.
  *
  *    1  too few entries, words or places are lent
  *    2  the bytes end before the record does
@@ -15,11 +16,11 @@
  *    5  a setting or a lamp is out of its range
  *    6  the drive levels do not rise strictly from 0 to 2^b - 1
  *    7  the luminances of the sweep fall somewhere
- *    8  the darkest level, with the room light, is below Table B-1
- *    9  the brightest level is above it
+ *    8  the darkest level, with the room light that a contact meter does not see, is below Table B-1
+ *    9  the brightest level, with that light, is above it
  *   10  the two are fewer than 100 JND apart
  *   11  "no table": some P-value has no drive level within the allowed error of its target
- *   12  a check reading, with the room light, is outside Table B-1
+ *   12  a check reading, with that light, is outside Table B-1
  *   13  the first and the last check reading are fewer than 100 JND apart, or fall */
 #ifndef YEPIDLAW_H
 #define YEPIDLAW_H

@@ -1,4 +1,5 @@
-// Reads a job record from standard input, and writes the report on it to standard output.
+// Reads a job record from standard input, and writes the report on it to standard output. No contract can speak of what is read and written: that
+// these are the bytes is shown by running.
 ghost use Prim.Native.Nat.{_≤_};
 ghost use lib.ListN.{length};
 

@@ -18,7 +18,7 @@ pub enum RoomMark {
     High,
 }
 
-// The only way from lux to luminance.
+// The one function from lux to luminance.
 pub fn room_luminance(lux: Lux, reflectance: Reflectance) -> Luminance
     ensures { λ r. ⌜ r .0 ≡ roomLuminance (lux .0) (reflectance .0) ⌝ }
 {

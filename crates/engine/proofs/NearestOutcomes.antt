@@ -11,18 +11,18 @@ use Rattle.target.specs.Target.{rangeOf}
 use Rattle.target.proofs.Laws.{targets-length}
 use Rattle.engine.specs.Sound.{Soundness}
 use Rattle.engine.specs.Conditions.{jlo, N, madeBy, Standing, stands, returned}
-use Rattle.engine.specs.Nearest.{nearestOf, nearestAnswer, entriesOver, nearestLent, NearestValues, number, valuesOf, NearestOutcome, short, back, made, NearestPromise}
+use Rattle.engine.specs.Nearest.{nearestOf, nearestAnswer, entriesOver, nearestLent, NearestValues, number, nearestValues, NearestOutcome, short, back, made, NearestPromise}
 use Rattle.engine.specs.NearestFacts.{Settled}
 use Rattle.engine.specs.declared.NearestAnswer.{NearestAnswer}
 use Rattle.engine.proofs.Conditions.{standing, sent, went-on}
 
 module _ (bytes before : List ℕ) where
-  long-outcome : (x : Soundness) → 256 ≤ length before → Standing bytes x → NearestOutcome bytes before (entriesOver x before) (valuesOf (nearestOf x))
+  long-outcome : (x : Soundness) → 256 ≤ length before → Standing bytes x → NearestOutcome bytes before (entriesOver x before) (nearestValues (nearestOf x))
   unfolding madeBy rangeOf
   long-outcome _ long (returned {r = r} b) = back long b
   long-outcome _ long (stands {job = job} g) = rw (targets-length (jlo bytes job) (N bytes job) 255) (made long g)
 
-  pub some-outcome : NearestOutcome bytes before (nearestLent bytes before) (valuesOf (nearestAnswer bytes (length before)))
+  pub some-outcome : NearestOutcome bytes before (nearestLent bytes before) (nearestValues (nearestAnswer bytes (length before)))
   unfolding nearestAnswer nearestLent
   some-outcome =
       ⊎-elim

@@ -1,4 +1,4 @@
--- What the check of a job asks and promises: tests 8, 9 and 10, which need no index there, and what follows them.
+-- What the check of a job asks and promises: tests 8, 9 and 10, whose indices it does not need, and what follows them.
 use Prim.Native.Nat.{ℕ}
 use mathlib.Core.Path.{_≡_}
 use mathlib.Core.List.{List}

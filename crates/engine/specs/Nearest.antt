@@ -56,9 +56,9 @@ pub data NearestValues : Type 0 where
   values : (jlo jhi range : ℕ) (mark : RoomMark) (error : ℕ) → NearestValues
   number : ℕ → NearestValues
 
-abbrev pub valuesOf : NearestAnswer → NearestValues
-valuesOf (Made f) = values (f .indices .low .0) (f .indices .high .0) (f .indices .range .0) (f .mark) (f .error .0)
-valuesOf (Refused r) = number (refusalNumber r)
+abbrev pub nearestValues : NearestAnswer → NearestValues
+nearestValues (Made f) = values (f .indices .low .0) (f .indices .high .0) (f .indices .range .0) (f .mark) (f .error .0)
+nearestValues (Refused r) = number (refusalNumber r)
 
 -- F(0) to F(M), and t(0) to t(255)
 abbrev pub curve : (bytes : List ℕ) → Job → List ℕ
@@ -88,4 +88,4 @@ pub data NearestOutcome (bytes before : List ℕ) : (after : List ℕ) → Neare
 pub record NearestPromise (bytes before after : List ℕ) (answer : NearestAnswer) : Type 0 where
   pub answers : answer ≡ nearestAnswer bytes (length before)
   pub table : after ≡ nearestLent bytes before
-  pub outcome : NearestOutcome bytes before after (valuesOf answer)
+  pub outcome : NearestOutcome bytes before after (nearestValues answer)

@@ -7,7 +7,7 @@ use Rattle.nearest.specs.Nearest.{errorAt, nearestLevel}
 use Rattle.record.specs.Refusals.{refusalNumber}
 use Rattle.record.specs.declared.Refusal.{Refusal}
 use Rattle.engine.specs.Sound.{SoundJob, sound, soundness, IsSound}
-use Rattle.engine.specs.Nearest.{NearestValues, valuesOf, nearestAnswer, nearestLent}
+use Rattle.engine.specs.Nearest.{NearestValues, nearestValues, nearestAnswer, nearestLent}
 use Rattle.engine.specs.declared.NearestFigures.{NearestFigures}
 
 -- a table that was made, of 256 entries or more that were lent
@@ -36,7 +36,7 @@ pub record MadeTable (bytes before after : List ℕ) (figures : NearestFigures) 
 -- the entries and the values are those of the equations
 pub record Settled (bytes before after : List ℕ) (v : NearestValues) : Type 0 where
   pub entries : after ≡ nearestLent bytes before
-  pub values-are : v ≡ valuesOf (nearestAnswer bytes (length before))
+  pub values-are : v ≡ nearestValues (nearestAnswer bytes (length before))
 
 -- r is numbered from low to high
 pub record Numbered (low high : ℕ) (r : Refusal) : Type 0 where

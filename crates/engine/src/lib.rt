@@ -22,7 +22,7 @@ use target::IndexRange;
 use units::Luminance;
 use units::PValue;
 
-// What tests 8, 9 and 10 find.
+// What tests 8, 9 and 10 find. (This type and the next two are public because definitions are stated with them.)
 pub enum Ranged {
     Wide(IndexRange),
     Fault(Refusal),
@@ -246,7 +246,8 @@ fn tested_by(ranged: Ranged) -> Tested
     }
 }
 
-// Tests 8, 9 and 10 of an accepted job without its indices. Table B-1 is copied only for a display that is not clearly wide.
+// Tests 8, 9 and 10 of an accepted job without its indices. Table B-1 is copied only for a display that is not clearly wide; `check_job` takes
+// a copy of its own, since hardly a display needs both.
 fn test_without_indices(job: Job, first: Luminance, last: Luminance) -> Tested
     requires { ⌜ first .0 ≤ last .0 ⌝ }
     ensures { λ r. ⌜ r ≡ testedBy (rangeTests (addedOf job + first .0) (addedOf job + last .0)) ⌝ }

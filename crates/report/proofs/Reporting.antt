@@ -9,7 +9,7 @@ use native.Mathlib.Omega.{arith}
 use Rattle.record.specs.Refusals.{refusalNumber}
 use Rattle.record.specs.declared.Refusal.{Refusal}
 use Rattle.contrast.specs.declared.Verdict.the-variants.{Pass, Fail}
-use Rattle.engine.specs.Nearest.{nearestAnswer, nearestLent, valuesOf, NearestOutcome}
+use Rattle.engine.specs.Nearest.{nearestAnswer, nearestLent, nearestValues, NearestOutcome}
 use Rattle.engine.specs.Even.{evenAnswer, evenLent, evenValues, EvenOutcome}
 use Rattle.engine.specs.Check.{checkAnswer, checkLent, checkValues, CheckOutcome}
 use Rattle.engine.specs.declared.NearestFigures.{NearestFigures}
@@ -26,7 +26,7 @@ use Rattle.report.specs.Report.{refusedLine, reportBy, reportOf, entries
 use Rattle.report.specs.Putting.{Put}
 
 module _ {bytes work first second : List ℕ} {third : List ℤ} where
-  by-answers : (n : NearestAnswer) (e : EvenAnswer) (c : CheckAnswer) → NearestOutcome bytes entries first (valuesOf n)
+  by-answers : (n : NearestAnswer) (e : EvenAnswer) (c : CheckAnswer) → NearestOutcome bytes entries first (nearestValues n)
       → EvenOutcome bytes entries work second (evenValues e) → CheckOutcome bytes places third (checkValues c)
       → ReportOutcome bytes work (reportBy n e c first second)
   by-answers (nearest.Refused r) e c o p q = by-nearest o

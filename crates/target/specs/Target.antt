@@ -21,7 +21,7 @@ rangeOf black white = record {
 abbrev pub tooNarrow : (range : ℕ) → Bool
 tooNarrow range = ltb range 10000
 
--- black from T(1) to below T(200) and white from T(300) to T(1023): tests 8, 9 and 10 let them pass, whatever their indices are
+-- black from T(1) to below T(200) and white from T(300) to T(1023): tests 8, 9 and 10 let them pass, for N is then above 10,000
 unfoldable pub clearlyWide : (black white : ℕ) → Bool
 clearlyWide black white =
     (leb (jndLuminance 1) black && ltb black (jndLuminance 200)) && (leb (jndLuminance 300) white && leb white (jndLuminance 1023))

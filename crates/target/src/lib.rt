@@ -41,8 +41,8 @@ pub fn is_too_narrow(range: JndRange) -> bool
     n < 10000
 }
 
-// Whether tests 8, 9 and 10 pass by the luminances of JND 1, 200, 300 and 1023 alone, for the first and the last reading and the light added
-// to them: most displays do, and Table B-1 need not be copied for them. A sum may need more than 32 bits.
+// True only where tests 8, 9 and 10 pass, told by T(1), T(200), T(300) and T(1023) alone, without a copy of Table B-1, as it can be of most
+// displays; false says nothing. Takes the first and the last reading, and the light added to them; a sum may need more than 32 bits.
 pub fn is_clearly_wide(added: Luminance, first: Luminance, last: Luminance) -> bool
     ensures { λ r. ⌜ r ≡ clearlyWide (added .0 + first .0) (added .0 + last .0) ⌝ }
 {

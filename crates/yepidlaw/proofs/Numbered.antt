@@ -23,7 +23,7 @@ use Rattle.yepidlaw.specs.declared.EvenResult.{EvenResult}
 use Rattle.yepidlaw.specs.declared.CheckResult.{CheckResult}
 use Rattle.yepidlaw.specs.Even.{evenResultOf, EvenCall}
 use Rattle.yepidlaw.specs.Check.{verdictNumber, checkResultOf, CheckCall}
-use Rattle.yepidlaw.specs.Nearest.{markNumber, resultOf, NearestCall}
+use Rattle.yepidlaw.specs.Nearest.{markNumber, nearestResultOf, NearestCall}
 
 pub result-made : {answer : NearestAnswer} {figures : NearestFigures} {mark : ℕ} → answer ≡ Made figures → mark ≡ markNumber (figures .mark)
     → record {
@@ -33,16 +33,19 @@ pub result-made : {answer : NearestAnswer} {figures : NearestFigures} {mark : �
       range = figures .indices .range .0;
       mark = mark;
       error = figures .error .0;
-    } ≡ resultOf answer
+    } ≡ nearestResultOf answer
 result-made e f = rw (e, f)
 
 pub result-refused : {answer : NearestAnswer} {r : Refusal} {n : ℕ} → answer ≡ Refused r → n ≡ refusalNumber r
-    → record { refusal = n; jlo = 0; jhi = 0; range = 0; mark = 0; error = 0 } ≡ resultOf answer
+    → record { refusal = n; jlo = 0; jhi = 0; range = 0; mark = 0; error = 0 } ≡ nearestResultOf answer
 result-refused e f = rw (e, f)
 
 pub called : {bytes before after : List ℕ} {answer : NearestAnswer} {result : NearestResult}
-    → NearestPromise bytes before after answer → result ≡ resultOf answer → NearestCall bytes before after result
-called h e = record { numbers = e ∙ ap resultOf (h .answers); table = h .table }
+    → NearestPromise bytes before after answer → result ≡ nearestResultOf answer → NearestCall bytes before after result
+called {bytes} {before} {after} h e = record {
+  numbers = e ∙ ap nearestResultOf (h .answers);
+  promise = subst (λ (a : NearestAnswer). NearestPromise bytes before after a) (h .answers) h;
+}
 
 -- ---- the even table
 
@@ -75,4 +78,7 @@ check-refused e f = rw (e, f)
 
 pub check-called : {bytes : List ℕ} {before after : List ℤ} {answer : CheckAnswer} {result : CheckResult}
     → CheckPromise bytes before after answer → result ≡ checkResultOf answer → CheckCall bytes before after result
-check-called h e = record { numbers = e ∙ ap checkResultOf (h .answers); deviations = h .deviations }
+check-called {bytes} {before} {after} h e = record {
+  numbers = e ∙ ap checkResultOf (h .answers);
+  promise = subst (λ (a : CheckAnswer). CheckPromise bytes before after a) (h .answers) h;
+}

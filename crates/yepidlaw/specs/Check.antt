@@ -7,7 +7,7 @@ use lib.ListN.{length}
 use Rattle.record.specs.Refusals.{refusalNumber}
 use Rattle.contrast.specs.declared.Verdict.{Verdict}
 use Rattle.contrast.specs.declared.Verdict.the-variants.{Pass, Fail}
-use Rattle.engine.specs.Check.{checkAnswer, checkLent}
+use Rattle.engine.specs.Check.{checkAnswer, CheckPromise}
 use Rattle.engine.specs.declared.CheckAnswer.{CheckAnswer}
 use Rattle.engine.specs.declared.CheckAnswer.the-variants.{Judged, NotMeasured, Refused}
 use Rattle.yepidlaw.specs.declared.CheckResult.{CheckResult}
@@ -23,7 +23,7 @@ checkResultOf (Judged verdict) = record { refusal = 0; verdict = verdictNumber v
 checkResultOf NotMeasured = record { refusal = 0; verdict = 0 }
 checkResultOf (Refused r) = record { refusal = refusalNumber r; verdict = 0 }
 
--- what a call promises of its result and of the places after it
+-- what a call promises: its result in numbers, and all that the operation promises of its answer and the places
 pub record CheckCall (bytes : List ℕ) (before after : List ℤ) (result : CheckResult) : Type 0 where
   pub numbers : result ≡ checkResultOf (checkAnswer bytes (length before))
-  pub deviations : after ≡ checkLent bytes before
+  pub promise : CheckPromise bytes before after (checkAnswer bytes (length before))

@@ -6,7 +6,7 @@ use lib.ListN.{length}
 use Rattle.record.specs.Refusals.{refusalNumber}
 use Rattle.curve.specs.declared.RoomMark.{RoomMark}
 use Rattle.curve.specs.declared.RoomMark.the-variants.{Low, High}
-use Rattle.engine.specs.Nearest.{nearestAnswer, nearestLent}
+use Rattle.engine.specs.Nearest.{nearestAnswer, NearestPromise}
 use Rattle.engine.specs.declared.NearestAnswer.{NearestAnswer}
 use Rattle.engine.specs.declared.NearestAnswer.the-variants.{Made, Refused}
 use Rattle.yepidlaw.specs.declared.NearestResult.{NearestResult}
@@ -17,8 +17,8 @@ markNumber Low = 0
 markNumber High = 1
 
 -- refusal 0 and the figures, or the refusal's number and 0 for each figure
-abbrev pub resultOf : NearestAnswer → NearestResult
-resultOf (Made figures) = record {
+abbrev pub nearestResultOf : NearestAnswer → NearestResult
+nearestResultOf (Made figures) = record {
   refusal = 0;
   jlo = figures .indices .low .0;
   jhi = figures .indices .high .0;
@@ -26,7 +26,7 @@ resultOf (Made figures) = record {
   mark = markNumber (figures .mark);
   error = figures .error .0;
 }
-resultOf (Refused r) = record {
+nearestResultOf (Refused r) = record {
   refusal = refusalNumber r;
   jlo = 0;
   jhi = 0;
@@ -35,7 +35,7 @@ resultOf (Refused r) = record {
   error = 0;
 }
 
--- what a call promises of its result and of the entries after it
+-- what a call promises: its result in numbers, and all that the operation promises of its answer and the entries
 pub record NearestCall (bytes before after : List ℕ) (result : NearestResult) : Type 0 where
-  pub numbers : result ≡ resultOf (nearestAnswer bytes (length before))
-  pub table : after ≡ nearestLent bytes before
+  pub numbers : result ≡ nearestResultOf (nearestAnswer bytes (length before))
+  pub promise : NearestPromise bytes before after (nearestAnswer bytes (length before))

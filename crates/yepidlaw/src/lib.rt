@@ -1,6 +1,6 @@
 // The engine's operations through the C ABI; include/yepidlaw.h declares them.
 ghost use mathlib.Core.Path.{_≡_};
-ghost use Rattle.yepidlaw.specs.Nearest.{markNumber, resultOf, NearestCall};
+ghost use Rattle.yepidlaw.specs.Nearest.{markNumber, nearestResultOf, NearestCall};
 ghost use Rattle.yepidlaw.specs.Even.{evenResultOf, EvenCall};
 ghost use Rattle.yepidlaw.specs.Check.{verdictNumber, checkResultOf, CheckCall};
 use contrast::Verdict;
@@ -18,7 +18,7 @@ pub struct NearestResult {
     pub jhi: u32,
     // jhi − jlo, N.
     pub range: u32,
-    // The room mark: 0 low, 1 high.
+    // The room mark: 0 low, 1 high; room_high in the header.
     pub mark: u32,
     // The largest error over the table, in units of 0.0001 cd/m².
     pub error: u32,
@@ -34,7 +34,7 @@ fn mark_number(mark: RoomMark) -> u32
 }
 
 fn nearest_result(answer: NearestAnswer) -> NearestResult
-    ensures { λ r. ⌜ r ≡ resultOf answer ⌝ }
+    ensures { λ r. ⌜ r ≡ nearestResultOf answer ⌝ }
 {
     match answer {
         NearestAnswer::Made(figures) => {
@@ -84,7 +84,7 @@ pub extern "C" fn yepidlaw_nearest(bytes: &[u8], table: &mut [u16]) -> NearestRe
 pub struct EvenResult {
     // 0 where the table was made; else the refusal's number, and the worst step is 0.
     pub refusal: u32,
-    // The worst step of the table, in thousandths of the step that is wanted, rounded up; it may be 0.
+    // The worst step of the table, in thousandths of the step that is wanted, rounded up; it may be 0. worst_step in the header.
     pub worst: u64,
 }
 
