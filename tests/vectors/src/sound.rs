@@ -204,10 +204,12 @@ fn shapes(engine: &Engine) -> Vec<Vector> {
     let falling = changed(full(engine), |record| record.check.swap(8, 9));
     let secondary = changed(full(engine), |record| record.settings[2] = SECONDARY);
     let one_falls = checked_but_for(secondary, engine, 8, -300);
+    let steep = Record { lamps: vec![42], luminances: vec![10_000, 4_000_000], ..small() };
     let unlit = changed(small(), |record| record.lamps = vec![0; 8]);
     let bright = Record { lamps: vec![2_000; 8], ..lit(CONTACT, 0, 1_000, [10_000, engine.gsdf.brightest() - 16_000_000]) };
     vec![
         Vector::sound("smallest", "the fewest bytes, 30", &small(), &["room low", "check none"]),
+        Vector::sound("steep-lit", "two readings alone in a lit room: a large worst step", &steep, &["room high", "check none"]),
         Vector::sound("full", "items in every section", &full(engine), &["room high", "check pass"]),
         Vector::sound("longest", "the most bytes, 6,250", &longest(engine), &["room high", "check pass"]),
         Vector::sound("one-step", "two luminances alone: a large worst step", &steps, &["room low", "check none"]),

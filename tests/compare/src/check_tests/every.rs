@@ -129,30 +129,55 @@ fn number_of(gsdf: &Gsdf, black: u64, white: u64) -> u32 {
     }
 }
 
+/// A room: the meter, the class, lamps, Rd, A, and the first index of a check there.
+type Room = (u64, u64, &'static [u64], u64, u64, u64);
+
+const ROOMS: [Room; 4] = [
+    (0, 1, &[], 1, 0, 20_000),
+    (0, 2, &[150, 250], 1, 400, 10_000),
+    (1, 1, &[150, 250], 1, 0, 10_000),
+    (0, 2, &[2_000; 8], 5, 80_000, 25_000),
+];
+
 /// Black around T(1) and around JND 200, white around JND 300, around the least range and around T(1023): the engine knows some displays to be wide by
-/// JND 200 and 300 alone. In three rooms, with a check and without.
+/// JND 200 and 300 alone. A third reading between them, in four rooms, one of them too bright for a black around T(1), with a check and without.
 fn ranges(reference: &Engine) -> bool {
     let gsdf = &reference.gsdf;
     let mut random = Random::new(11);
     let mut all = Answers::new("check: every range");
     let around = |luminance: u64| luminance - 2..=luminance + 2;
-    let fit = expected(gsdf, 20_000, 80_000);
-    let rooms: [(u64, &[u64], u64); 3] = [(0, &[], 0), (0, &[150, 250], 400), (1, &[150, 250], 0)];
     for black in [500, gsdf.luminance(19_900), gsdf.luminance(20_000), gsdf.luminance(20_100)].into_iter().flat_map(around) {
         let least = gsdf.luminance(gsdf.index(black.max(500)) + 10_000);
         for white in [least, gsdf.luminance(29_900), gsdf.luminance(30_000), 39_934_040].into_iter().flat_map(around) {
-            for (meter, lamps, added) in rooms {
-                for check in [vec![], without(added, &fit)] {
-                    let mut record = job(meter, 1, lamps, check);
-                    record.luminances = vec![black - added, white - added];
+            for (meter, class, lamps, reflectance, added, first) in ROOMS.into_iter().filter(|room| room.4 <= black) {
+                for check in [vec![], without(added, &expected(gsdf, first, first + 60_000))] {
+                    let settings = vec![8, meter, class, reflectance, 0];
+                    let luminances = without(added, &[black, (black + white) / 2, white]);
+                    let record = Record { settings, lamps: lamps.to_vec(), ddls: vec![0, 128, 255], luminances, check };
                     one(&mut all, &mut random, reference, &record, number_of(gsdf, black, white));
                 }
             }
         }
     }
-    all.ended(20 * 20 * 3 * 2)
+    all.ended(20 * 20 * 3 * 2 + 15 * 20 * 2)
+}
+
+/// The least range above the luminance of each index, and one unit less.
+fn least_ranges(reference: &Engine) -> bool {
+    let gsdf = &reference.gsdf;
+    let mut random = Random::new(12);
+    let mut all = Answers::new("check: every least range");
+    for black in (102..=92_300).map(|k| gsdf.luminance(k)) {
+        let least = gsdf.luminance(gsdf.index(black) + 10_000);
+        for (white, number) in [(least - 1, 10), (least, 0)] {
+            let mut record = job(1, 1, &[], vec![]);
+            record.luminances = vec![black, white];
+            one(&mut all, &mut random, reference, &record, number);
+        }
+    }
+    all.ended(2 * 92_199)
 }
 
 pub fn results(reference: &Engine) -> Vec<bool> {
-    vec![lengths(reference), patches(reference), reflectances(reference), ranges(reference)]
+    vec![lengths(reference), patches(reference), reflectances(reference), ranges(reference), least_ranges(reference)]
 }

@@ -131,6 +131,46 @@ fn off_by_units(gsdf: &Gsdf) -> Vec<Example> {
     examples
 }
 
+/// What products of floating-point numbers make of an allowed error, as a programmer may write them.
+fn inexact(tolerance: u64, target: u64) -> [u64; 2] {
+    let (parts, luminance) = (tolerance as f64, target as f64);
+    [parts / 1_000.0 * luminance, luminance * (parts * 0.001)].map(|product| product as u64)
+}
+
+/// Errors that are a whole number of units at a target where such a product falls short of it: one level as far off as that, and one more. No other level is allowed there.
+fn whole_errors(gsdf: &Gsdf) -> Vec<Example> {
+    let mut examples = vec![];
+    let ranges = [10_010, 30_000, 60_000, 100_000].into_iter().flat_map(|n| (200..2_200).step_by(40).map(move |k| [k, k + n]));
+    let targets: Vec<Vec<u64>> =
+        ranges.map(|ends| ends.map(|k| gsdf.index(gsdf.luminance(k)))).map(|[jlo, jhi]| Range { jlo, jhi }.targets(gsdf, 255)).collect();
+    for tolerance in 1..=300 {
+        let fits = |targets: &[u64], p: usize| {
+            let most = tolerance * targets[p] / 1_000;
+            let whole = tolerance * targets[p] % 1_000 == 0;
+            whole
+                && inexact(tolerance, targets[p]).iter().any(|&short| short < most)
+                && (p - 1..=p).all(|step| most + 1 < targets[step + 1] - targets[step])
+        };
+        let Some((targets, p)) = targets.iter().find_map(|targets| (1..255).find(|&p| fits(targets, p)).map(|p| (targets, p))) else {
+            continue;
+        };
+        let most = tolerance * targets[p] / 1_000;
+        for (units, number) in [(most, 0), (most + 1, 11)] {
+            for brighter in [false, true] {
+                let (readings, _) = off_at(targets, p, brighter, units);
+                let record = display(8, 1, &[], tolerance, readings);
+                examples.push((
+                    format!("{units} of {} with an error of {tolerance}", targets[p]),
+                    record.bytes(),
+                    LEAST,
+                    vec![Number(number)],
+                ));
+            }
+        }
+    }
+    examples
+}
+
 /// With an error of 0, single levels off by a unit: no table because of the first P-value, of the last, of all or of any; but with an error of 1 there is one.
 fn no_level(gsdf: &Gsdf) -> Vec<Example> {
     let mut examples = vec![];
@@ -200,6 +240,7 @@ pub fn results(reference: &Engine) -> Vec<bool> {
         compare(reference, "even: refusal table", refusal_table(), 26 * 5 * 3),
         compare(reference, "even: exact displays", exact(gsdf), (3 * 4 * 3 * 4 + 4) * 7),
         compare(reference, "even: one level off", off_by_units(gsdf), 4 * 5 + 254 * 2 * (5 + 5 + 3)),
+        compare(reference, "even: whole errors", whole_errors(gsdf), 11 * 4 * 3),
         compare(reference, "even: no allowed level", no_level(gsdf), 9 * (3 + 5)),
         compare(reference, "even: two luminances", two_luminances(), 5 * (5 + 3 + 7 + 3)),
         nearest_examples(reference),
