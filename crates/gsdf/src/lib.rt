@@ -9,7 +9,7 @@ use units::Luminance;
 
 mod table;
 
-// Table B-1, entry j − 1 for JND j. Every use of the constant copies it, so that a function which needs it for more than one thing takes it once and lends it.
+// Table B-1, entry j − 1 for JND j. Every use of the constant copies it, so it is taken once where that will do, and lent.
 pub fn table_b1() -> [u32; 1023]
     ensures { λ r. ⌜ r ≡ tableB1 ⌝ }
 {

@@ -10,7 +10,7 @@ use lib.Dec.{leb, ltb}
 use mir.Facts.{and-yes, leb-yes, ltb-yes, clash}
 use borrow.Author.Tests.{le-ltb}
 use Rattle.laws.proofs.Cases.{le-or-lt, yes-is}
-use Rattle.gsdf.specs.DisplayFunction.{luminanceOf, indexOf}
+use Rattle.gsdf.specs.DisplayFunction.{indexOf}
 use Rattle.gsdf.specs.Ends.{belowTable, aboveTable}
 use Rattle.gsdf.proofs.TableRule.{jnd-first, jnd-200, jnd-300, jnd-last}
 use Rattle.gsdf.proofs.Ends.{below-is, above-is}
