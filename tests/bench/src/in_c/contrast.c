@@ -35,7 +35,7 @@ static bool fill_deviations(const uint32_t *patches, uint32_t first, uint32_t ra
 
 struct yepidlaw_check check_in_c(const uint8_t *record, size_t n, int32_t *deviations, size_t m) {
     struct job job;
-    const uint32_t number = m < PAIRS ? 1 : read_job(record, n, &job);
+    const uint32_t number = m < PAIRS ? 1 : read_job(record, n, &job, false);
     if (number || job.patches == 0) {
         return (struct yepidlaw_check){.refusal = number};
     }

@@ -10,6 +10,8 @@
 
 enum { JNDS = 1023, LEVELS = 1024, VALUES = 256, PATCHES = 18, PAIRS = 17, WORDS_OF_ROW = 32, LONGEST_RECORD = 6250 };
 enum { DARKEST = 500, BRIGHTEST = 39934040, LEAST_RANGE = 10000 };
+/* T(200) and T(300) */
+enum { JND_200 = 82179, JND_300 = 233990 };
 
 /* Table B-1; entry j - 1 is that of JND j. */
 extern const uint32_t table_b1[JNDS];
@@ -55,8 +57,8 @@ static inline uint32_t luminance_of(uint32_t k) {
 /* J */
 uint32_t index_of(uint32_t l);
 
-/* Tests 2 to 10; 0 for a sound job. */
-uint32_t read_job(const uint8_t *record, size_t n, struct job *job);
+/* Tests 2 to 10; 0 for a sound job. Where the indices are not wanted, they are not looked for in a display that is clearly wide. */
+uint32_t read_job(const uint8_t *record, size_t n, struct job *job, bool indices);
 
 /* F(0) to F(M), and t(0) to t(255). */
 void fill_curve(const struct job *job, uint32_t *curve);

@@ -156,7 +156,7 @@ struct even_values even_fill_in_c(const uint32_t *curve, size_t levels, const ui
 
 struct yepidlaw_even even_in_c(const uint8_t *record, size_t n, uint16_t *table, size_t m, uint32_t *work, size_t k) {
     struct job job;
-    const uint32_t number = m < VALUES || k < WORDS_OF_ROW * VALUES ? 1 : read_job(record, n, &job);
+    const uint32_t number = m < VALUES || k < WORDS_OF_ROW * VALUES ? 1 : read_job(record, n, &job, true);
     if (number) {
         return (struct yepidlaw_even){.refusal = number};
     }

@@ -25,7 +25,7 @@ static uint32_t fill_table(const uint32_t *curve, const uint32_t *targets, uint1
 
 struct yepidlaw_nearest nearest_in_c(const uint8_t *record, size_t n, uint16_t *table, size_t m) {
     struct job job;
-    const uint32_t number = m < VALUES ? 1 : read_job(record, n, &job);
+    const uint32_t number = m < VALUES ? 1 : read_job(record, n, &job, true);
     if (number) {
         return (struct yepidlaw_nearest){.refusal = number};
     }

@@ -85,6 +85,12 @@ static uint32_t judge_sweep(const struct job *job) {
     return falls ? 7 : 0;
 }
 
+/* Tests 8 to 10 pass, as T(1), T(200), T(300) and T(1023) alone tell. */
+static bool is_clearly_wide(const struct job *job) {
+    const uint64_t black = (uint64_t)job->added + reading_at(job, 0), white = (uint64_t)job->added + reading_at(job, job->readings - 1);
+    return DARKEST <= black && black < JND_200 && JND_300 <= white && white <= BRIGHTEST;
+}
+
 /* Tests 8 to 10. */
 static uint32_t find_range(struct job *job) {
     const uint64_t black = (uint64_t)job->added + reading_at(job, 0), white = (uint64_t)job->added + reading_at(job, job->readings - 1);
@@ -99,7 +105,7 @@ static uint32_t find_range(struct job *job) {
     return job->high - job->low < LEAST_RANGE ? 10 : 0;
 }
 
-uint32_t read_job(const uint8_t *record, size_t n, struct job *job) {
+uint32_t read_job(const uint8_t *record, size_t n, struct job *job, bool indices) {
     struct section sections[SECTIONS];
     uint32_t number = find_sections(record, n, sections);
     if (number) {
@@ -113,5 +119,5 @@ uint32_t read_job(const uint8_t *record, size_t n, struct job *job) {
     if (!number) {
         number = judge_sweep(job);
     }
-    return number ? number : find_range(job);
+    return number || (!indices && is_clearly_wide(job)) ? number : find_range(job);
 }

@@ -2,7 +2,7 @@
 use compare::yepidlaw::Check;
 
 use super::gsdf::{index, luminance, TABLE_B1};
-use super::job::{shown, Frame, LEAST_RANGE};
+use super::job::{added_of_sound, shown, LEAST_RANGE};
 use super::record;
 
 const PAIRS: usize = 17;
@@ -39,11 +39,11 @@ fn fill(patches: &[u32; PATCHES], first: u32, range: u32, parts: i64, deviations
 fn judged(bytes: &[u8], deviations: &mut [i32]) -> Result<u32, u32> {
     let deviations = deviations.get_mut(..PAIRS).ok_or(1u32)?;
     let values = record::read(bytes);
-    let frame = Frame::of(&values)?;
+    let added = added_of_sound(&values)?;
     if values.patches == 0 {
         return Ok(0);
     }
-    let patches = patches(&values.check, frame.added).ok_or(12u32)?;
+    let patches = patches(&values.check, added).ok_or(12u32)?;
     let [first, last] = [patches[0], patches[PAIRS]].map(|patch| index(&TABLE_B1, patch));
     if last < first + LEAST_RANGE {
         return Err(13);

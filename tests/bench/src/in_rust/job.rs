@@ -8,6 +8,9 @@ const LEVELS: usize = 1024;
 const DARKEST: u64 = 500;
 const BRIGHTEST: u64 = 39_934_040;
 pub const LEAST_RANGE: u32 = 10_000;
+/// T(200) and T(300).
+const JND_200: u64 = 82_179;
+const JND_300: u64 = 233_990;
 
 /// The luminance of each level; those above M are 0.
 pub type Curve = [u32; LEVELS];
@@ -28,16 +31,38 @@ pub fn shown(added: u32, reading: u32) -> Option<u32> {
     (DARKEST..=BRIGHTEST).contains(&luminance).then_some(luminance as u32)
 }
 
+/// A0 and A.
+fn light(values: &RecordValues) -> [u32; 2] {
+    let room = u32::from(values.lux) * u32::from(values.reflectance);
+    [room, if values.meter == 0 { room } else { 0 }]
+}
+
+/// F(0) and F(M).
+fn ends(values: &RecordValues, added: u32) -> [u64; 2] {
+    [values.luminances[0], values.luminances[values.readings - 1]].map(|reading| u64::from(added) + u64::from(reading))
+}
+
+/// A of a sound job, whose indices are not wanted: they are not looked for in a display that is clearly wide.
+pub fn added_of_sound(values: &RecordValues) -> Result<u32, u32> {
+    if values.refusal != 0 {
+        return Err(values.refusal);
+    }
+    let [_, added] = light(values);
+    let [black, white] = ends(values, added);
+    if (DARKEST..JND_200).contains(&black) && (JND_300..=BRIGHTEST).contains(&white) {
+        return Ok(added);
+    }
+    Frame::of(values).map(|frame| frame.added)
+}
+
 impl Frame {
     /// Tests 8 to 10 of a record that was read, after what reading found.
     pub fn of(values: &RecordValues) -> Result<Frame, u32> {
         if values.refusal != 0 {
             return Err(values.refusal);
         }
-        let room = u32::from(values.lux) * u32::from(values.reflectance);
-        let added = if values.meter == 0 { room } else { 0 };
-        let black = u64::from(added) + u64::from(values.luminances[0]);
-        let white = u64::from(added) + u64::from(values.luminances[values.readings - 1]);
+        let [room, added] = light(values);
+        let [black, white] = ends(values, added);
         if black < DARKEST {
             return Err(8);
         }
