@@ -5,7 +5,7 @@ ghost use Rattle.reach.specs.Rows.{RowThere, RunLit, First, RowAsks, RowFilled};
 ghost use Rattle.reach.specs.Words.{FoundFirst, InWord, WordFilled};
 
 // The levels `from` to `to` - 1 of a row.
-#[derive(Drop)]
+#[derive(Clone, Copy)]
 pub struct Run {
     pub from: usize,
     pub to: usize,

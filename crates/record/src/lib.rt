@@ -10,7 +10,7 @@ ghost use Rattle.record.specs.Reader.{SweepItems, steps_up, LevelsRise, Climbed,
 use units::{Ddl, Luminance, Lux, Reflectance};
 
 // What sends a job back. `refusal_number` gives the number of each.
-#[derive(Drop)]
+#[derive(Clone, Copy)]
 pub enum Refusal {
     LentTooShort,
     RecordTooShort,
@@ -47,20 +47,20 @@ pub fn refusal_number(r: Refusal) -> u32
     }
 }
 
-#[derive(Drop)]
+#[derive(Clone, Copy)]
 pub enum Meter {
     Contact,
     Telescopic,
 }
 
-#[derive(Drop)]
+#[derive(Clone, Copy)]
 pub enum Class {
     Primary,
     Secondary,
 }
 
 // The sections of a record, in their order.
-#[derive(Drop)]
+#[derive(Clone, Copy)]
 pub enum Section {
     Settings,
     Lamps,
