@@ -1,4 +1,6 @@
 // The Grayscale Standard Display Function of PS3.14: the luminance of a JND index and the JND index of a luminance.
+#![tactic(auto)]
+
 ghost use Rattle.std.specs.Prelude.{◌≡◌, ◌+◌, ◌≤◌};
 ghost use Rattle.gsdf.specs.Table.{table_b1};
 ghost use Rattle.gsdf.specs.DisplayFunction.{jnd_luminance, luminance_of, index_of, IsIndex, InTable};
