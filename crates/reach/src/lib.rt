@@ -1,4 +1,6 @@
 // Which levels of a row reach the next one, for rows of 1024 bits in lent words: bit d of row p stands for drive level d.
+#![tactic(auto)]
+
 ghost use Rattle.std.specs.Prelude.{◌≡◌, ◌+◌, ◌*◌, ◌/◌, min, max, ◌≤◌, ◌<◌, length};
 ghost use Rattle.reach.specs.Bits.{bit_at, marked};
 ghost use Rattle.reach.specs.Rows.{RowThere, RunLit, First, RowAsks, RowFilled};
