@@ -1,4 +1,5 @@
 // The quantities of a calibration. Each is a type of its own: where one is asked for, another does not compile.
+#![tactic(auto)]
 
 // Illuminance in lux; one lamp gives 0 to 2,000, eight of them at most 16,000.
 #[derive(Clone, Copy)]
