@@ -1,13 +1,12 @@
 -- A record has 6,250 bytes at most: how a longer input is read does not depend on what follows its first 6,251 bytes.
 -- Assumes nothing.
-use Prim.Native.Nat.{ℕ, zero, suc, ◌+◌, ◌-◌, ◌*◌, ◌≤◌, ◌<◌}
+use Prim.Native.Nat.{ℕ, zero, suc, ◌+◌, ◌-◌, ◌*◌, ◌≤◌}
 use mathlib.Core.Path.{◌≡◌, refl, sym, ap, ◌∙◌}
 use mathlib.Core.List.{List, [], ◌∷◌}
-use mathlib.Core.Bool.{true, false}
+use mathlib.Core.Bool.{true}
 use mathlib.Core.Logic.{⊎_elim}
 use lib.ListN.{length, take, drop, length-drop}
 use lib.Seq.{take_all, take-nil, length-take-le, get_or-take}
-use lib.Dec.{eqb}
 use native.Mathlib.Omega.{arith}
 use borrow.Author.Tests.{le-ltb, eqb-true, leb-true, ne_eqb}
 use Rattle.laws.proofs.Cases.{by, le_or_lt}

@@ -1,4 +1,6 @@
 // The job record: any bytes give its sections and, after tests 5 to 7, its job, or the first refusal from 2 to 7.
+#![tactic(auto)]
+
 ghost use Rattle.std.specs.Prelude.{◌≡◌, ◌++◌, ◌&&◌, ◌+◌, ◌-◌, ◌*◌, ◌<◌, ◌≤◌, length, take, drop, get_or, T, eqb};
 ghost use Rattle.laws.specs.Rises.{rises_by};
 ghost use Rattle.record.specs.Refusals.{refusal_number};
