@@ -1,5 +1,5 @@
 -- What the functions that draw the curve ask and keep.
-use Rattle.std.specs.Prelude.{ℕ, ◌+◌, ◌-◌, ◌*◌, ◌≤◌, ◌<◌, ◌≡◌, List, length, get_or}
+use Rattle.std.specs.Prelude.{ℕ, ◌+◌, ◌-◌, ◌*◌, ◌<◌, ◌≡◌, List, length, get_or}
 use Rattle.laws.specs.Fill.{tab}
 use Rattle.curve.specs.Curve.{interpolate, Sweep}
 

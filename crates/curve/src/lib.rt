@@ -1,4 +1,6 @@
 // The light of the room, and the characteristic curve of a display from its sweep.
+#![tactic(auto)]
+
 ghost use Rattle.std.specs.Prelude.{◌≡◌, ◌++◌, ◌+◌, ◌-◌, ◌<◌, ◌≤◌, length, drop};
 ghost use Rattle.curve.specs.Room.{room_luminance, added_luminance, room_mark};
 ghost use Rattle.curve.specs.Curve.{curve_of};
@@ -47,7 +49,7 @@ pub fn room_mark(room: Luminance, first: Luminance) -> RoomMark
 }
 
 // The rise from one reading to another `width` levels on, for each level: whole units, and a rest in parts of a unit, `width` of which make one.
-#[derive(Drop)]
+#[derive(Clone, Copy)]
 struct Slope {
     whole: u32,
     rest: u32,

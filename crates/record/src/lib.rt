@@ -84,7 +84,7 @@ pub enum Layout {
     Broken(Refusal),
 }
 
-#[derive(Drop)]
+#[derive(Clone, Copy)]
 pub struct JobSettings {
     // Bits of a drive level, 8 to 10.
     pub depth: u16,
@@ -96,7 +96,7 @@ pub struct JobSettings {
 }
 
 // The settings, and the sum of the lamps.
-#[derive(Drop)]
+#[derive(Clone, Copy)]
 pub struct Job {
     pub settings: JobSettings,
     pub lamps: Lux,
