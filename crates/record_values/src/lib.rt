@@ -1,4 +1,6 @@
 // The reader of a job record through the C ABI, on bare numbers: for the comparison by running.
+#![tactic(auto)]
+
 ghost use Rattle.std.specs.Prelude.{◌≡◌};
 ghost use Rattle.record.specs.Tests.{meter_number, class_number};
 ghost use Rattle.record_values.specs.Values.{numbers_of, ValuesOf};
