@@ -1,4 +1,6 @@
 // The index range of a display, and the target luminance of each P-value.
+#![tactic(auto)]
+
 ghost use Rattle.std.specs.Prelude.{◌≡◌, ◌++◌, ◌+◌, ◌<◌, ◌≤◌, length, drop};
 ghost use Rattle.target.specs.Target.{range_of, too_narrow, clearly_wide, target_at, targets_of, HasRange, Aims};
 
