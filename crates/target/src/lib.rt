@@ -7,7 +7,7 @@ ghost use Rattle.target.specs.Target.{range_of, too_narrow, clearly_wide, target
 use units::{JndIndex, JndRange, Luminance, PValue};
 
 // Jlo and Jhi, the indices of black and of white, and N, how far they are apart.
-#[derive(Drop)]
+#[derive(Clone, Copy)]
 pub struct IndexRange {
     pub low: JndIndex,
     pub high: JndIndex,
