@@ -33,13 +33,11 @@ bounds-deviations-i c =
 
 pub keeps_limit-keeps-requires : goal.keeps_limit-keeps-requires
 keeps_limit-keeps-requires c =
-    let loop = c.loop-i in
-    (filling_pair c.requires.2 loop.invariant (omega arith) c.shown_at-s.ensures c.expected_at-h.ensures, c.requires.1)
+    (filling_pair c.requires.2 c.loop-i.invariant (omega arith) c.shown_at-s.ensures c.expected_at-h.ensures, c.requires.1)
 
 pub loop-i-preserved : goal.loop-i-preserved
 loop-i-preserved c =
-    let loop = c.loop-i in
-    filling_more c.requires.2 loop.invariant (omega arith) c.shown_at-s.ensures c.expected_at-h.ensures
+    filling_more c.requires.2 c.loop-i.invariant (omega arith) c.shown_at-s.ensures c.expected_at-h.ensures
     c.requires.0.fits _ _ c.deviation-per_mille.ensures c.keeps_limit-keeps.ensures
 
 pub shape_of-deviations : goal.shape_of-deviations

@@ -19,8 +19,14 @@ overflow_sub-result c = search (turned_fits, word_fits)
 -- both tests are of n, so they agree
 pub returns-then-n-lt0-2 : goal.returns-then-n-lt0-2
 returns-then-n-lt0-2 c =
-    elim c.if-n-lt0.branch [ then-n-lt0 w ↦ rw w.turned-is (floor_below c.ranges.n c.requires.1 c.if-n-lt0-2.true) | else-n-lt0 w ↦ absurd (false≢true (sym w.if-n-lt0.false ∙ c.if-n-lt0-2.true)) ]
+    elim c.if-n-lt0.branch [
+      | then-n-lt0 w ↦ rw w.turned-is (floor_below c.ranges.n c.requires.1 c.if-n-lt0-2.true)
+      | else-n-lt0 w ↦ absurd (false≢true (sym w.if-n-lt0.false ∙ c.if-n-lt0-2.true))
+    ]
 
 pub returns-else-n-lt0-2 : goal.returns-else-n-lt0-2
 returns-else-n-lt0-2 c =
-    elim c.if-n-lt0.branch [ then-n-lt0 w ↦ absurd (false≢true (sym c.if-n-lt0-2.false ∙ w.if-n-lt0.true)) | else-n-lt0 w ↦ rw w.turned-is (floor_from_0 c.ranges.n c.requires.1 c.if-n-lt0-2.false) ]
+    elim c.if-n-lt0.branch [
+      | then-n-lt0 w ↦ absurd (false≢true (sym c.if-n-lt0-2.false ∙ w.if-n-lt0.true))
+      | else-n-lt0 w ↦ rw w.turned-is (floor_from_0 c.ranges.n c.requires.1 c.if-n-lt0-2.false)
+    ]
