@@ -1,8 +1,6 @@
 -- The answer of the check chooses what is put. Assumes nothing.
 use mathlib.Core.Path.{sym, ◌∙◌}
 use Rattle.report.specs.Text.{text}
-use borrow.Author.Rules.{rules}
-use Rattle.report.proofs.after_even.Lts as lts
 use Rattle.report.proofs.after_even.Goals as goal
 
 pub returns-in-Refused : goal.returns-in-Refused

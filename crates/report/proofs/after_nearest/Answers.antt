@@ -1,8 +1,6 @@
 -- The answer of the even table chooses what is put. Assumes nothing.
 use mathlib.Core.Path.{sym, ◌∙◌}
 use Rattle.report.specs.Report.{entries}
-use borrow.Author.Rules.{rules}
-use Rattle.report.proofs.after_nearest.Lts as lts
 use Rattle.report.proofs.after_nearest.Goals as goal
 
 pub returns-in-Refused : goal.returns-in-Refused

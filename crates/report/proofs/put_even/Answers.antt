@@ -2,8 +2,6 @@
 use native.Mathlib.Omega.{arith}
 use Rattle.report.specs.Text.{text}
 use Rattle.report.proofs.Putting.{then_number, number_ends, digits_64}
-use borrow.Author.Rules.{rules}
-use Rattle.report.proofs.put_even.Lts as lts
 use Rattle.report.proofs.put_even.Goals as goal
 
 pub put_number-requires : goal.put_number-requires

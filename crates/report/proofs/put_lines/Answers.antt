@@ -1,7 +1,5 @@
 -- The lines follow one another. Assumes nothing.
 use Rattle.report.proofs.Putting.{put_then}
-use borrow.Author.Rules.{rules}
-use Rattle.report.proofs.put_lines.Lts as lts
 use Rattle.report.proofs.put_lines.Goals as goal
 
 pub returns : goal.returns

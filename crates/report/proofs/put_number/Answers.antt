@@ -1,8 +1,6 @@
 -- The part of the array that is put holds the digits. Assumes nothing.
-use borrow.Author.Rules.{rules}
 use native.Mathlib.Omega.{arith}
 use Rattle.report.proofs.Putting.{put_more, spelled_part, put_digits, room_after}
-use Rattle.report.proofs.put_number.Lts as lts
 use Rattle.report.proofs.put_number.Goals as goal
 
 pub put_text-end-requires : goal.put_text-end-requires

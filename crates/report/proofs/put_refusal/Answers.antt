@@ -3,9 +3,8 @@ use native.Mathlib.Omega.{arith}
 use mir.Syntax.{w32}
 use mir.Val.{Fits}
 use Rattle.report.specs.Text.{text}
-use Rattle.report.proofs.Putting.{then_number, number_ends, digits_32}
+use Rattle.report.proofs.Putting.{then_number, digits_32}
 use borrow.Author.Rules.{rules}
-use Rattle.report.proofs.put_refusal.Lts as lts
 use Rattle.report.proofs.put_refusal.Goals as goal
 
 pub put_number-requires : goal.put_number-requires

@@ -1,8 +1,6 @@
 -- The words are the bytes that the code holds. Assumes nothing.
 use native.Mathlib.Omega.{arith}
 use Rattle.report.specs.Text.{text}
-use borrow.Author.Rules.{rules}
-use Rattle.report.proofs.put_room.Lts as lts
 use Rattle.report.proofs.put_room.Goals as goal
 
 pub returns-in-Low : goal.returns-in-Low

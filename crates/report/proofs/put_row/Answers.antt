@@ -5,7 +5,6 @@ use mir.Val.{Fits}
 use Rattle.report.specs.Text.{text}
 use Rattle.report.proofs.Putting.{then_number, number_ends, digits_16}
 use borrow.Author.Rules.{rules}
-use Rattle.report.proofs.put_row.Lts as lts
 use Rattle.report.proofs.put_row.Goals as goal
 
 pub put_number-after_value-requires : goal.put_number-after_value-requires

@@ -1,8 +1,6 @@
 -- The loop's invariant is the record `Rowed`. Assumes nothing.
-use Prim.Native.Nat.{◌-◌}
 use native.Mathlib.Omega.{arith}
-use Rattle.report.proofs.Putting.{Rowed, rowed_none, rowed_more, rowed_all}
-use Rattle.report.proofs.put_rows.Lts as lts
+use Rattle.report.proofs.Putting.{rowed_none, rowed_more, rowed_all}
 use Rattle.report.proofs.put_rows.Goals as goal
 
 pub loop-p-init : goal.loop-p-init

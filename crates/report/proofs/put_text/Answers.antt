@@ -1,10 +1,7 @@
 -- The loop's invariant is the record `PutFront`. Assumes nothing.
-use Prim.Native.Nat.{◌-◌}
 use mathlib.Core.Path.{refl}
 use native.Mathlib.Omega.{arith}
-use lib.ListN.{length}
-use Rattle.report.proofs.Putting.{PutFront, put_front_none, put_front_more, put_front_all}
-use Rattle.report.proofs.put_text.Lts as lts
+use Rattle.report.proofs.Putting.{put_front_none, put_front_more, put_front_all}
 use Rattle.report.proofs.put_text.Goals as goal
 
 pub loop-i-init : goal.loop-i-init

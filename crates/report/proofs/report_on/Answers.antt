@@ -3,8 +3,6 @@ use mathlib.Core.Path.{refl, sym, ◌∙◌}
 use lib.ListN.{length}
 use Rattle.report.specs.Report.{entries}
 use Rattle.report.proofs.Reporting.{report_refused, report_made, reported}
-use borrow.Author.Rules.{rules}
-use Rattle.report.proofs.report_on.Lts as lts
 use Rattle.report.proofs.report_on.Goals as goal
 
 pub returns-in-Refused : goal.returns-in-Refused

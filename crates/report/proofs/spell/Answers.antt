@@ -1,8 +1,7 @@
 -- The loop's invariant is the record `Spelling`. Assumes nothing.
 use native.Mathlib.Omega.{arith}
 use lib.ListN.{length-set}
-use Rattle.report.proofs.Putting.{Spelling, spelling_none, spelling_more, spelling_all, room}
-use Rattle.report.proofs.spell.Lts as lts
+use Rattle.report.proofs.Putting.{spelling_none, spelling_more, spelling_all, room}
 use Rattle.report.proofs.spell.Goals as goal
 
 pub loop-rest-init : goal.loop-rest-init

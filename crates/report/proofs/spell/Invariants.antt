@@ -1,8 +1,5 @@
 -- The loop's invariant is the record `Spelling`. Assumes nothing.
-use native.Mathlib.Omega.{arith}
-use lib.ListN.{length-set}
-use Rattle.report.proofs.Putting.{Spelling, spelling_none, spelling_more, spelling_all, room}
-use Rattle.report.proofs.spell.Lts as lts
+use Rattle.report.proofs.Putting.{Spelling}
 use Rattle.report.proofs.spell.Given as goal
 
 abbrev pub invariant-loop-rest : goal.invariant-loop-rest
