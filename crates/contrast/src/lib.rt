@@ -1,4 +1,6 @@
 // The contrast check: how far the contrast of neighbouring patches deviates from the display function, and the verdict on it.
+#![tactic(auto)]
+
 ghost use Rattle.std.specs.Prelude.{◌≡◌, ◌+◌, ◌<◌, ◌≤◌, nat_abs, length};
 ghost use Rattle.gsdf.specs.Table.{table_b1};
 ghost use Rattle.gsdf.specs.DisplayFunction.{InTable};

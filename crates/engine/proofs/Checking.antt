@@ -9,7 +9,6 @@ use lib.IntN.{ℤ}
 use lib.ListN.{length, take}
 use lib.Seq.{take-length}
 use Rattle.gsdf.specs.Table.{table_b1}
-use Rattle.record.specs.declared.Refusal.{Refusal}
 use Rattle.record.specs.declared.Refusal.TheVariants.{CheckOutsideTable, CheckRangeTooNarrow}
 use Rattle.record.specs.declared.Job.{Job}
 use Rattle.contrast.specs.Check.{shown, Checkable, Checked}

@@ -13,8 +13,8 @@ use Rattle.even.specs.Even.{Given}
 use Rattle.even.specs.Table.{has_no_table}
 use Rattle.even.specs.Filled.{given, outcome_of, FillAsks, EvenFilled}
 use Rattle.even.specs.declared.Outcome.{Outcome}
-use Rattle.engine.specs.Sound.{unsound, soundness, IsSound}
-use Rattle.engine.specs.Even.{given_by, outcome_answer, too_little, even_answer, even_lent, Enough, EvenPromise}
+use Rattle.engine.specs.Sound.{unsound, soundness}
+use Rattle.engine.specs.Even.{outcome_answer, too_little, even_answer, even_lent, Enough, EvenPromise}
 use Rattle.target.specs.declared.IndexRange.{IndexRange}
 use Rattle.engine.specs.Drawing.{Drawn}
 use Rattle.record.specs.declared.Job.{Job}

@@ -20,7 +20,7 @@ use Rattle.even.specs.Filled.{outcome_of, even_over, Workable}
 use Rattle.even.proofs.Even.{no_list, even_is, even_worst}
 use Rattle.engine.specs.Sound.{Soundness}
 use Rattle.engine.specs.Conditions.{GoesOn, made_by, Standing, stands, returned}
-use Rattle.engine.specs.Even.{given_by, outcome_answer, even_of, too_little, even_answer, even_entries, even_lent, WithinError, worst_step, IsEvenTable, worst, even_values, Enough, EvenOutcome, short, back, none, made, MadeFor, EvenPromise}
+use Rattle.engine.specs.Even.{given_by, outcome_answer, even_of, too_little, even_answer, even_entries, even_lent, WithinError, worst_step, IsEvenTable, even_values, Enough, EvenOutcome, short, back, none, made, MadeFor, EvenPromise}
 use Rattle.engine.specs.declared.EvenFigures.{EvenFigures}
 use Rattle.engine.specs.declared.EvenAnswer.{EvenAnswer}
 use Rattle.engine.specs.declared.EvenAnswer.TheVariants.{Made, Refused}

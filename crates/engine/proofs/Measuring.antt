@@ -1,12 +1,12 @@
 -- An accepted job and its sweep: the tests, and what a sound job makes.
 -- Assumes nothing.
-use mathlib.Core.Path.{◌≡◌, refl, sym, ap, subst, ◌∙◌}
+use mathlib.Core.Path.{◌≡◌, sym, ap, subst, ◌∙◌}
 use mathlib.Core.Logic.{⊎_elim}
-use mathlib.Core.List.{List, ◌++◌}
+use mathlib.Core.List.{List}
 use Prim.Native.Nat.{ℕ, ◌+◌, ◌-◌, ◌≤◌}
 use native.Mathlib.Nat.{eq-or-lt_of_le}
 use native.Mathlib.Omega.{arith}
-use lib.ListN.{length, get_or, drop}
+use lib.ListN.{length, get_or}
 use borrow.Author.Tests.{ltb-false}
 use Rattle.laws.proofs.Cases.{by}
 use Rattle.units.specs.declared.Luminance.{Luminance}
@@ -18,17 +18,14 @@ use Rattle.curve.specs.Room.{added_luminance, room_mark}
 use Rattle.gsdf.specs.Ends.{below_table, above_table}
 use Rattle.curve.specs.Curve.{curve_at, curve_of, Sweep}
 use Rattle.curve.specs.Walk.{Drawable}
-use Rattle.curve.specs.declared.RoomMark.{RoomMark}
 use Rattle.gsdf.proofs.Ends.{not_below, not_above}
 use Rattle.curve.proofs.Laws as curve
 use Rattle.target.specs.Target.{range_of, too_narrow, targets_of, Aims}
 use Rattle.target.specs.declared.IndexRange.{IndexRange}
-use Rattle.target.proofs.Laws as target
 use Rattle.target.proofs.Ranges.{range_low, range_high, range_between}
-use Rattle.engine.specs.Sound.{SoundJob, Soundness, sound, unsound, room_of, added_of, top_of, range_tests, measured}
+use Rattle.engine.specs.Sound.{SoundJob, sound, unsound, room_of, added_of, top_of, range_tests, measured}
 use Rattle.engine.specs.Drawing.{light_of, sweep_tests}
 use Rattle.engine.specs.declared.Light.{Light}
-use Rattle.engine.specs.declared.Ranged.{Ranged}
 use Rattle.engine.specs.declared.Ranged.TheVariants.{Wide, Fault}
 use Rattle.engine.proofs.Clashes.{wide_fault}
 

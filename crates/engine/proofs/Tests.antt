@@ -59,7 +59,7 @@ module _ (black white : ℕ) (x : Bool) (ex : x ≡ below_table black) where
 
 clear_passes : (black white : ℕ) → Clear black white → tested_by (range_tests black white) ≡ Passed
 unfolding range_tests
-clear_passes black white h = simp (h.from_First, h.to_last, h.wide)
+clear_passes black white h = simp (h.from_first, h.to_last, h.wide)
 
 module _ (job : Job) (first last : ℕ) {light : Light} (l : light ≡ light_of job) where
   pub tested_clear : {x : Bool} → x ≡ clearly_wide (light.added.0 + first) (light.added.0 + last) → x ≡ true

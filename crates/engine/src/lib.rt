@@ -1,4 +1,6 @@
 // The operations on a job record: the tests in their order, then the layers below.
+#![tactic(auto)]
+
 ghost use Rattle.std.specs.Prelude.{◌≡◌, length, take, ◌+◌, ◌≤◌};
 ghost use Rattle.gsdf.specs.Table.{table_b1};
 ghost use Rattle.engine.specs.Sound.{added_of, range_tests};

@@ -1,4 +1,6 @@
 // The even table of any curve and any targets.
+#![tactic(auto)]
+
 ghost use Rattle.std.specs.Prelude.{◌≡◌, true, false, ◌++◌, length, drop, max, ◌+◌, ◌*◌, ◌^◌, ◌<◌, ◌≤◌};
 ghost use Rattle.laws.specs.Numbers.{distance};
 ghost use Rattle.even.specs.Even.{step_deviation};

@@ -1,4 +1,6 @@
 // The even table of any curve and targets through the C ABI, on bare numbers: for the comparison by running and for the benchmark.
+#![tactic(auto)]
+
 ghost use Rattle.std.specs.Prelude.{◌≡◌};
 ghost use Rattle.even.specs.Filled.{given, FillAsks};
 ghost use Rattle.even_values.specs.Values.{numbers_of, ValuesFilled};

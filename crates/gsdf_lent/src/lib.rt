@@ -1,4 +1,6 @@
 // The display function with Table B-1 lent, through the C ABI on bare numbers: for the comparison by running and for the benchmark.
+#![tactic(auto)]
+
 ghost use Rattle.std.specs.Prelude.{◌≡◌};
 ghost use Rattle.gsdf.specs.Table.{table_b1};
 ghost use Rattle.gsdf.specs.DisplayFunction.{luminance_of, index_of, IsIndex, InTable};

@@ -1,5 +1,7 @@
 // The nearest table of any curve and targets: for each target the drive level whose luminance is nearest to it.
 // Curve and targets never fall, so one walk along both finds every entry.
+#![tactic(auto)]
+
 ghost use Rattle.std.specs.Prelude.{◌≡◌, max};
 ghost use Rattle.laws.specs.Numbers.{distance};
 ghost use Rattle.nearest.specs.Nearest.{Walkable, Fillable, Filled};

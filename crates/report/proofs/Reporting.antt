@@ -1,17 +1,17 @@
 -- The report, by the outcomes of the three operations.
 -- Assumes nothing.
-use Prim.Native.Nat.{ℕ, ◌≤◌}
-use mathlib.Core.Path.{◌≡◌, ap, sym, ◌∙◌}
+use Prim.Native.Nat.{ℕ}
+use mathlib.Core.Path.{◌≡◌, ap, ◌∙◌}
 use mathlib.Core.List.{List}
 use lib.IntN.{ℤ}
-use lib.ListN.{length, take, length-take}
+use lib.ListN.{length, length-take}
 use native.Mathlib.Omega.{arith}
 use Rattle.record.specs.Refusals.{refusal_number}
 use Rattle.record.specs.declared.Refusal.{Refusal}
 use Rattle.contrast.specs.declared.Verdict.TheVariants.{Pass, Fail}
 use Rattle.engine.specs.Nearest.{nearest_answer, nearest_lent, nearest_values, NearestOutcome}
 use Rattle.engine.specs.Even.{even_answer, even_lent, even_values, EvenOutcome}
-use Rattle.engine.specs.Check.{check_answer, check_lent, check_values, CheckOutcome}
+use Rattle.engine.specs.Check.{check_answer, check_values, CheckOutcome}
 use Rattle.engine.specs.declared.NearestFigures.{NearestFigures}
 use Rattle.engine.specs.declared.NearestAnswer.{NearestAnswer}
 use Rattle.engine.specs.declared.NearestAnswer.TheVariants as nearest
@@ -22,7 +22,7 @@ use Rattle.engine.specs.declared.CheckAnswer.TheVariants as check
 use Rattle.engine.proofs.NearestOutcomes.{some_outcome}
 use Rattle.engine.proofs.EvenOutcomes.{some_even}
 use Rattle.engine.proofs.CheckOutcomes.{some_check}
-use Rattle.report.specs.Report.{refused_line, report_by, report_of, entries, places, Tables, ReportOutcome, by_nearest, by_even, by_check, unmeasured, passes, fails, ReportPromise}
+use Rattle.report.specs.Report.{refused_line, report_by, report_of, entries, places, ReportOutcome, by_nearest, by_even, by_check, unmeasured, passes, fails, ReportPromise}
 use Rattle.report.specs.Putting.{Put}
 
 module _ {bytes work first second : List ℕ} {third : List ℤ} where

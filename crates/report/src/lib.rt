@@ -1,4 +1,6 @@
 // The report on a job record, as the program prints it.
+#![tactic(auto)]
+
 ghost use Rattle.std.specs.Prelude.{◌+◌, ◌≤◌, ◌<◌, ◌≡◌, [], ◌∷◌, ◌++◌, length};
 ghost use Rattle.record.specs.Refusals.{refusal_number};
 ghost use Rattle.report.specs.Text.{decimal};

@@ -1,11 +1,13 @@
 // The index range of a display, and the target luminance of each P-value.
+#![tactic(auto)]
+
 ghost use Rattle.std.specs.Prelude.{◌≡◌, ◌++◌, ◌+◌, ◌<◌, ◌≤◌, length, drop};
 ghost use Rattle.target.specs.Target.{range_of, too_narrow, clearly_wide, target_at, targets_of, HasRange, Aims};
 
 use units::{JndIndex, JndRange, Luminance, PValue};
 
 // Jlo and Jhi, the indices of black and of white, and N, how far they are apart.
-#[derive(Drop)]
+#[derive(Clone, Copy)]
 pub struct IndexRange {
     pub low: JndIndex,
     pub high: JndIndex,

@@ -1,4 +1,6 @@
 // The engine's operations through the C ABI; include/yepidlaw.h declares them.
+#![tactic(auto)]
+
 ghost use Rattle.std.specs.Prelude.{◌≡◌};
 ghost use Rattle.yepidlaw.specs.Nearest.{mark_number, nearest_result_of, NearestCall};
 ghost use Rattle.yepidlaw.specs.Even.{even_result_of, EvenCall};

@@ -1,0 +1,11 @@
+-- The levels passed are darker. Assumes nothing.
+use Prim.Native.Nat.{◌-◌, ◌≤◌}
+use lib.ListN.{length}
+use Rattle.even.specs.Runs.{reaching}
+use Rattle.even.proofs.rise_to.Given as goal
+
+abbrev pub invariant-loop-d : goal.invariant-loop-d
+invariant-loop-d l = l.d ≤ reaching l.curve l.l.0
+
+abbrev pub decreases-loop-d : goal.decreases-loop-d
+decreases-loop-d l = length l.curve - l.d
