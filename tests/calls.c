@@ -34,6 +34,11 @@ ssize_t write(int file, const void *bytes, size_t n) {
     return syscall(SYS_write, file, bytes, taken(n));
 }
 
+/* The name that Rattle's library writes by. */
+ssize_t __write(int file, const void *bytes, size_t n) {
+    return write(file, bytes, n);
+}
+
 ssize_t readv(int file, const struct iovec *parts, int n) {
     note("read", file);
     return syscall(SYS_readv, file, parts, n);

@@ -1,19 +1,34 @@
 """The edits that the prover must refuse, for the two tests that hold them to it.
 
 An edit has a comment line, a line 'refused: WHERE FACT' and replacements as rt reads them, 'file:', 'old:' and 'new:'. WHERE is the function whose contract
-is not met, or the module of proofs/ whose law does not hold, and FACT the need or the law: the prover's first error must be there.
+is not met, or the module of proofs/ whose law does not hold, and FACT the goal, or the law or lemma: the prover's first error must be there.
+
+rt tries edits and says of each the first error that is more than a name that the proofs no longer find. Where that error is at an answer or a law, this is
+enough: the answer is read, and does not prove its goal. Where it is at a goal without an answer, the edit is made in a copy of the repository and checked
+there, since the answer may only have lost its name: then the first error of the whole log counts.
 """
+import concurrent.futures
 import os
 import re
+import shutil
+import subprocess
+import tempfile
 
 from sources import ROOT, read
 
 CRATES = os.path.join(ROOT, 'crates')
+JOBS = int(os.environ.get('RT_JOBS') or len(os.sched_getaffinity(0)))
+REFUSED = 'refused, as it must be: '
+STILL_PROVED = 'NOT REFUSED'
+# what rt says of one edit
+TRIED = re.compile(r'^rt: must-fail (\w+)/(\S+\.edit): (.*)$', re.M)
 # what the prover says where an edit did not change a fact but what the proof can name, or does not even parse
 UNFIT = re.compile(
-    r'has no `Need-|has no field|expected type `tie\.Need-|is not in scope|is private|was not admitted|expected an |→ Type 0` \(expected\)|no such module|'
-    r'`rw`: no occurrence of|`rw`: no part of the goal'
+    r'has no `|has no field|is not in scope|is private|was not admitted|only because a proof file names|only by a limit|expected an |cannot continue|→ Type 0` \(expected\)|'
+    r'no such module|`rw`: no occurrence of|`rw`: no part of the goal'
 )
+PROOF = r'(?:\./)?proofs/(?:([\w+]+)/(?:Answers|Invariants)|(\w+))\.antt:\d+:\d+: error: `([^`]+)`:'
+GOAL = r'note: src/\S+: it is not proved that '
 
 
 def edits_of(kind):
@@ -55,41 +70,104 @@ def apply(edit, folder):
     return None if pairs else 'it replaces nothing'
 
 
-def first_error(log, folder):
-    """The first error's block of lines, without the path to the crate's folder."""
+def copy_of(repository, to, edits=None):
+    """A copy of what rt reads of a repository, with the edits of the folders crates/NAME/EDITS as the must-fail edits where these are named, and with what
+    earlier checks kept: what they proved by links, since a check puts a new file in the place of one that it does not find current."""
+
+    def link_or_copy(file, copy):
+        (os.link if file.endswith('.oantt') or '/out/rlib/' in file else shutil.copy2)(file, copy)
+
+    shutil.copy(os.path.join(repository, 'crates.txt'), to)
+    for crate in os.listdir(os.path.join(repository, 'crates')):
+        for part in ('src', 'specs', 'proofs', 'out/rlib', 'out/incremental', edits):
+            folder = os.path.join(repository, 'crates', crate, part or '')
+            if part and os.path.isdir(folder):
+                shutil.copytree(folder, os.path.join(to, 'crates', crate, 'must-fail' if part == edits else part), copy_function=link_or_copy)
+
+
+def rt(folder, *words):
+    """The exit status of rt and all that it said."""
+    run = subprocess.run(['rt', *words], cwd=folder, stdout=subprocess.PIPE, stderr=subprocess.STDOUT, text=True)
+    return run.returncode, run.stdout
+
+
+def tried(repository, crates):
+    """What rt says of each must-fail edit of these crates, by the crate and the file's name; and all that it said."""
+    said = rt(repository, 'must-fail', *crates)[1]
+    return {(crate, name): outcome for crate, name, outcome in TRIED.findall(said)}, said
+
+
+def log_of(repository, crate, edit):
+    """What the prover says of a crate with an edit: the log, or what kept it from the prover."""
+    with tempfile.TemporaryDirectory() as copy:
+        copy_of(repository, copy)
+        folder = os.path.join(copy, 'crates', crate)
+        wrong = apply(edit, folder)
+        if wrong:
+            return None, wrong
+        status, said = rt(folder, 'check', '--jobs', '1')
+    if status == 0:
+        return None, STILL_PROVED
+    if status != 1 or not re.search(r'^logic=not-proved', said, re.M):
+        return None, 'it did not reach the prover (exit status %d): %s' % (status, said)
+    return said, None
+
+
+def first_error(log):
+    """The first error's block of lines."""
     block = []
     for line in log.splitlines():
         starts = ': error' in line or 'it is not proved that' in line
         if block and (starts or not line.startswith('  ')):
             break
         if block or starts:
-            block.append(line.replace(folder + os.sep, ''))
+            block.append(line)
     return '\n'.join(block)
 
 
 def place(error, log):
-    """Where the first error is: the function or module, and the need or law."""
-    proof = re.match(r'proofs/(?:(\w+)/Proof|(\w+))\.antt:\d+:\d+: error: `([^`]+)`', error)
+    """Where the first error is: the function or module, and the goal or law."""
+    proof = re.match(PROOF, error)
     if proof:
         return proof.group(1) or proof.group(2), proof.group(3)
-    need = re.match(r'note: src/\S+: it is not proved that .*\(`([^`]+)`\)', error)
-    function = re.search(r'^fn \w+::(\w+): no proof', log, re.M)
-    if need and function:
-        return function.group(1), need.group(1)
-    return None
+    goal = re.match(GOAL + r'.*\(`([^`]+)`\)', error)
+    function = goal and re.search(r'^fn \w+::(?:\w+::)*(\w+): (?:not proved|no proof)', log[log.index(error) :], re.M)
+    return (function.group(1), goal.group(1)) if function else None
 
 
-def refusal_fault(edit, log, folder):
-    """What is wrong with the refusal of an edited crate that stood in the folder; None where nothing is."""
-    named = [tuple(line.split()[1:]) for line in edit.split('\n') if line.startswith('refused: ')]
-    error = first_error(log, folder)
-    if not error:
-        return 'no error in its log'
-    if UNFIT.search(error):
-        return 'the proof no longer fits: ' + error
-    if [place(error, log)] != named:
-        return 'refused at %s and not at %s: %s' % (place(error, log), named, error)
-    return None
+def refusal_fault(edit, outcome, log):
+    """What is wrong with an edit's refusal, by what rt said of it; log gives what the prover said. None where nothing is wrong, and the first error."""
+    named = [tuple(line.split()[-2:]) for line in edit.split('\n') if re.match(r'(# )?refused: \S+ \S+$', line)]
+    if not outcome.startswith(REFUSED):
+        return outcome or 'it was not tried', ''
+    error = whole = outcome[len(REFUSED) :]
+    if re.match(GOAL, error):
+        whole, wrong = log()
+        if wrong:
+            return wrong, ''
+        error = first_error(whole)
+    if not error or UNFIT.search(error):
+        return 'the proof no longer fits: ' + error, ''
+    if [place(error, whole)] != named:
+        return 'refused at %s and not at %s: %s' % (place(error, whole), named, error), ''
+    return None, error.splitlines()[0][:160]
+
+
+def hold_refusals(tally, repository, kind, crates):
+    """Holds each edit of the folders crates/NAME/KIND to what its line 'refused:' says; they are the must-fail edits of the repository's crates."""
+    edits = [edit for edit in edits_of(kind) if not crates or edit[0] in crates]
+    outcomes, said = tried(repository, sorted({crate for crate, _, _ in edits}))
+    if not outcomes:
+        print(said)
+
+    def held(found):
+        crate, name, edit = found
+        wrong = form_fault(name, edit)
+        return (wrong, '') if wrong else refusal_fault(edit, outcomes.get((crate, name), ''), lambda: log_of(repository, crate, edit))
+
+    with concurrent.futures.ThreadPoolExecutor(JOBS) as pool:
+        for (crate, name, _), (wrong, says) in zip(edits, pool.map(held, edits)):
+            tally.hold('%s/%s' % (crate, name), wrong, says)
 
 
 class Tally:
@@ -107,10 +185,6 @@ class Tally:
             self.passed += 1
             if says:
                 print('%s: %s' % (name, says), flush=True)
-
-    def hold_refusal(self, crate, name, wrong, log, folder):
-        """An edit's refusal, with the first line of the prover's first error."""
-        self.hold('%s/%s' % (crate, name), wrong, None if wrong else first_error(log, folder).splitlines()[0][:160])
 
     def end(self):
         print('%d passed, %d failed' % (self.passed, self.failed))

@@ -1,6 +1,6 @@
 /* Reads a job record, from the file named or from standard input, and prints what the engine makes of it. From the repository's root:
  *
- *     gcc -std=c11 -O2 -I include -o summary examples/c/main.c target/staticlib/libyepidlaw.a
+ *     gcc -std=c11 -O2 -I include -o summary examples/c/main.c crates/yepidlaw/out/libyepidlaw.a
  *     ./summary RECORD
  *
  * The status is 0 where the job is sound, 1 where it is refused and 2 where it cannot be read. */

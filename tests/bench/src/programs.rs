@@ -11,10 +11,10 @@ fn beside(name: &str) -> PathBuf {
     std::env::current_exe().expect("its own path").with_file_name(name)
 }
 
-/// `rt check` writes the engine's.
+/// `rt ci` and `rt run` write the engine's.
 pub fn path(side: Side) -> PathBuf {
     match side {
-        Side::Engine => Path::new(env!("CARGO_MANIFEST_DIR")).join("../../target/bin/calibrate"),
+        Side::Engine => Path::new(env!("CARGO_MANIFEST_DIR")).join("../../crates/calibrate/out/calibrate"),
         Side::Rust => beside("calibrate_in_rust"),
         Side::C => PathBuf::from(env!("CALIBRATE_IN_C")),
     }
