@@ -1,5 +1,5 @@
 // Reads a job record from standard input, and writes the report on it to standard output. No contract can speak of what the system gives and takes; over a
-// reader and a writer whose bytes are known it speaks of all that is read and written.
+// reader and a writer whose bytes are known it speaks of all that is read, and of all that is written where no write failed.
 #![tactic(auto)]
 
 ghost use Rattle.std.specs.Prelude.{◌≡◌, ◌<◌, ◌≤◌, length, take, OnOk};

@@ -12,7 +12,7 @@ pub record SweepItems (items : List ℕ) (n : ℕ) : Type 0 where
   pub most : n ≤ 1024
   pub whole : length items ≡ n * 6
 
--- of n readings, reading i, counted from 0, has a higher level than the one before it, and no lower luminance; in the form of risesFrom, with steps of 1 and 0
+-- of n readings, reading i, counted from 0, has a higher level than the one before it, and no lower luminance; in the form of rises_from, with steps of 1 and 0
 abbrev pub steps_up : (n : ℕ) (items : List ℕ) (i : ℕ) → Bool
 steps_up n items i =
     leb (get_or (fields 6 (word 0) n items) (i - 1) 0 + 1) (get_or (fields 6 (word 0) n items) i 0)
