@@ -10,7 +10,7 @@ use units::{JndIndex, Luminance};
 
 mod table;
 
-// Table B-1, entry j − 1 for JND j. Every use of the constant copies it, so it is taken once where that will do, and lent.
+// Table B-1, entry j − 1 for JND j, by value: a caller takes it once where that will do, and lends it.
 pub fn table_b1() -> [u32; 1023]
     ensures { result ≡ table_b1 }
 {
