@@ -1,11 +1,11 @@
 """The edits that the prover must refuse, for the two tests that hold them to it.
 
 An edit has a comment line, a line 'refused: WHERE FACT' and replacements as rt reads them, 'file:', 'old:' and 'new:'. WHERE is the function whose contract
-is not met, or the module of proofs/ whose law does not hold, and FACT the goal, or the law or lemma: the prover's first error must be there.
+is not met, or the module of proofs/ whose law does not hold, and FACT the goal, or the law or lemma: the error that counts must be there.
 
-rt tries edits and says of each the first error that is more than a name that the proofs no longer find. Where that error is at an answer or a law, this is
-enough: the answer is read, and does not prove its goal. Where it is at a goal without an answer, the edit is made in a copy of the repository and checked
-there, since the answer may only have lost its name: then the first error of the whole log counts.
+That is the one which rt says of an edit, the first that is more than a name that the proofs no longer find. Where it is at an answer or a law, this is enough:
+the answer is read, and does not prove its goal. Where it is at a goal without an answer, the edit is made in a copy of the repository and checked there, since
+the answer may only have lost its name: then the first error of the whole log counts.
 """
 import concurrent.futures
 import os

@@ -1,6 +1,6 @@
 -- The even table of a record: each way that the operation ends.
 -- Assumes nothing.
-use Prim.Native.Nat.{ℕ}
+use Prim.Native.Nat.{ℕ, ◌≤◌}
 use mathlib.Core.Path.{◌≡◌, refl, sym, ap, ◌∙◌}
 use mathlib.Core.List.{List}
 use mathlib.Core.Bool.{true, false}
@@ -21,7 +21,7 @@ use Rattle.record.specs.declared.Job.{Job}
 use Rattle.engine.specs.declared.EvenAnswer.{EvenAnswer}
 use Rattle.engine.specs.declared.EvenAnswer.TheVariants.{Refused}
 use Rattle.engine.proofs.Clashes.{table_refused}
-use Rattle.engine.proofs.EvenTerms.{workable}
+use Rattle.engine.proofs.EvenTerms.{workable_within}
 use Rattle.engine.proofs.EvenOutcomes.{lent_enough, promised}
 use Rattle.engine.proofs.Soundness.{sound_job}
 
@@ -30,6 +30,10 @@ words_kept : (x : Given) {before after words words_after : List ℕ} {outcome : 
     → (r : Refusal) → outcome_answer outcome ≡ Refused r → words_after ≡ words
 unfolding outcome_of
 words_kept x h r e = by (has_no_table x) h.words_without_table (λ f. absurd (table_refused (simp (h.answers, f) at e)))
+
+pub error_high : {bytes curve targets : List ℕ} {job : Job} {indices : IndexRange} {levels : ℕ} → Drawn bytes job indices levels curve targets
+    → job.settings.tolerance ≤ 1000
+error_high d = (sound_job _ _ d.is).tolerance
 
 module _ (bytes before words : List ℕ) where
   -- nothing was written
@@ -51,13 +55,13 @@ module _ (bytes before words : List ℕ) where
         unchanged r (simp (long, e)) (simp (long, e))
 
     module _ {job : Job} {indices : IndexRange} {levels : ℕ} {curve targets : List ℕ} (d : Drawn bytes job indices levels curve targets) where
-      pub fill_asks : (starts ends : List ℕ) → length starts ≡ 256 → length ends ≡ 256
-          → FillAsks (given (take levels curve) targets job.settings.tolerance) starts ends before words
-      fill_asks starts ends n m =
+      pub fill_asks : (starts ends : List ℕ) → length starts ≡ 256 → length ends ≡ 256 → {tolerance : ℕ} → tolerance ≤ 1000
+          → FillAsks (given (take levels curve) targets tolerance) starts ends before words
+      fill_asks starts ends n m h =
           let known = sound_job bytes _ d.is in
           record {
             lent = record {
-              workable = workable known;
+              workable = workable_within known _ h;
               entries_fit = omega (arith, known.values, enough.entries);
               rows_fit = omega (arith, known.values, enough.words);
             };

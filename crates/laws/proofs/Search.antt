@@ -128,11 +128,6 @@ module _ (p : ℕ → Bool) (lo : ℕ) where
   of_top zero = omega arith
   of_top (suc n) = chosen (λ (m : ℕ). m ≤ lo + suc n) (p (lo + suc n)) (λ t. omega arith) (λ t. omega (arith, of_top n))
 
-  of_passes : (n : ℕ) → T (p lo) → T (p (largest_of p lo n))
-  unfolding largest_of
-  of_passes zero h = h
-  of_passes (suc n) h = chosen (λ (m : ℕ). T (p m)) (p (lo + suc n)) (λ t. t) (λ t. of_passes n h)
-
   of_max : (n i : ℕ) → i ≤ lo + n → T (p i) → i ≤ largest_of p lo n
   unfolding largest_of
   of_max zero i l h = omega arith
@@ -143,6 +138,11 @@ module _ (p : ℕ → Bool) (lo : ℕ) where
       (λ e. absurd (T_not (p (lo + suc n)) (subst (λ (m : ℕ). T (p m)) e h) t))
       (λ b. of_max n i (omega arith) h)
       (eq-or-lt_of_le l))
+
+  of_passes : (n : ℕ) → T (p lo) → T (p (largest_of p lo n))
+  unfolding largest_of
+  of_passes zero h = h
+  of_passes (suc n) h = chosen (λ (m : ℕ). T (p m)) (p (lo + suc n)) (λ t. t) (λ t. of_passes n h)
 
   module _ (hi : ℕ) where
     pub largest_low : lo ≤ largest p lo hi

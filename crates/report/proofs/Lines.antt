@@ -9,23 +9,17 @@ use lib.Dec.{T, eqb}
 use lib.ListN.{length}
 use native.Mathlib.Omega.{arith}
 use mir.Facts.{and_yes, yes_and, no_eqb}
+use Rattle.laws.specs.Fill.{tab}
+use Rattle.laws.proofs.Fill.{length_tab}
 use Rattle.curve.specs.declared.RoomMark.{RoomMark}
 use Rattle.curve.specs.declared.RoomMark.TheVariants.{Low, High}
 use Rattle.contrast.specs.declared.Verdict.{Verdict}
 use Rattle.contrast.specs.declared.Verdict.TheVariants.{Pass, Fail}
-use Rattle.engine.specs.Nearest.{nearest_answer, nearest_lent}
-use Rattle.engine.specs.Even.{even_answer, even_lent}
-use Rattle.engine.specs.Check.{check_answer}
-use Rattle.engine.specs.declared.NearestAnswer.{NearestAnswer}
-use Rattle.engine.specs.declared.NearestAnswer.TheVariants as nearest
-use Rattle.engine.specs.declared.EvenAnswer.{EvenAnswer}
-use Rattle.engine.specs.declared.EvenAnswer.TheVariants as even
-use Rattle.engine.specs.declared.CheckAnswer.{CheckAnswer}
-use Rattle.engine.specs.declared.CheckAnswer.TheVariants as check
 use Rattle.report.specs.Text.{text, decimal, Digits}
-use Rattle.report.specs.Report.{refused_line, range_line, room_line, even_line, verdict_line, unmeasured_line, row, rows, lines, report_by, entries, places, report_of}
+use Rattle.report.specs.Report.{refused_line, range_line, room_line, even_line, verdict_line, unmeasured_line, row, rows, lines, report_of, ReportOutcome, by_nearest, by_even, by_check, unmeasured, passes, fails}
 use Rattle.report.specs.Facts.{has_no_feed, Lines}
 use Rattle.report.proofs.Decimal.{decimal_rule}
+use Rattle.report.proofs.Reporting.{some_report}
 
 -- ---- bytes without a line feed
 
@@ -106,9 +100,9 @@ unfolding has_no_feed text
 verdict Pass = one_line (text "check pass") tt
 verdict Fail = one_line (text "check fail") tt
 
-unmeasured : Lines 1 unmeasured_line
+unmeasured_one : Lines 1 unmeasured_line
 unfolding has_no_feed text
-unmeasured = one_line (text "check none") tt
+unmeasured_one = one_line (text "check none") tt
 
 one_row : (p nearest even : ℕ) → Lines 1 (row p nearest even)
 one_row p nearest even = one_line _ (field_after _ even (field_after _ nearest (number_no_feed p)))
@@ -130,20 +124,19 @@ all_lines jlo jhi n mark worst check nearest even c =
     (together 3 1 _ _ (together 2 1 _ _ (together 1 1 _ _ (range jlo jhi n) (room mark)) (even_line_lem worst)) c)
     (all_rows nearest even 256)
 
-lines_by : (a : NearestAnswer) (e : EvenAnswer) (c : CheckAnswer) (nearest even : List ℕ)
-    → Lines 1 (report_by a e c nearest even) ⊎ Lines 260 (report_by a e c nearest even)
-lines_by (nearest.Refused r) e c n v = inl (refused _)
-lines_by (nearest.Made f) (even.Refused r) c n v = inl (refused _)
-lines_by (nearest.Made f) (even.Made g) (check.Refused r) n v = inl (refused _)
-lines_by (nearest.Made f) (even.Made g) check.NotMeasured n v = inr (all_lines _ _ _ f.mark g.worst _ n v unmeasured)
-lines_by (nearest.Made f) (even.Made g) (check.Judged w) n v = inr (all_lines _ _ _ f.mark g.worst _ n v (verdict w))
+lines_by : {bytes work report : List ℕ} → ReportOutcome bytes work report → Lines 1 report ⊎ Lines 260 report
+lines_by (by_nearest o) = inl (refused _)
+lines_by (by_even o p) = inl (refused _)
+lines_by (by_check t q) = inl (refused _)
+lines_by (unmeasured t q) = inr (all_lines _ _ _ _ _ _ _ _ unmeasured_one)
+lines_by (passes t q) = inr (all_lines _ _ _ _ _ _ _ _ (verdict Pass))
+lines_by (fails t q) = inr (all_lines _ _ _ _ _ _ _ _ (verdict Fail))
 
+-- work of so many words
 pub whole_lines : (bytes : List ℕ) (words : ℕ) → Lines 1 (report_of bytes words) ⊎ Lines 260 (report_of bytes words)
-unfolding report_of
 whole_lines bytes words =
-    lines_by
-    (nearest_answer bytes (length entries))
-    (even_answer bytes (length entries) words)
-    (check_answer bytes (length places))
-    (nearest_lent bytes entries)
-    (even_lent bytes entries words)
+    let work : List ℕ = tab (λ i. 0) words in
+    subst
+    (λ (n : ℕ). Lines 1 (report_of bytes n) ⊎ Lines 260 (report_of bytes n))
+    (length_tab (λ i. 0) words)
+    (lines_by (some_report bytes work))

@@ -1,7 +1,8 @@
 use mathlib.Core.Path.{refl, sym, ◌∙◌}
 use lib.Seq.{length-take-le}
+use native.Mathlib.Omega.{arith}
 use Rattle.engine.proofs.Reading.{unread, in_order, sent_back, passed_tests}
-use Rattle.engine.proofs.Even.{too_little_lem, even_back, fill_asks, even_filled}
+use Rattle.engine.proofs.Even.{too_little_lem, even_back, error_high, fill_asks, even_filled}
 use borrow.Author.Rules.{rules}
 use Rattle.engine.proofs.even_table.Goals as goal
 
@@ -18,7 +19,7 @@ pub slice_bounds-fill_table-end : goal.slice_bounds-fill_table-end
 slice_bounds-fill_table-end c = sym (length-take-le _ _ c.draw-levels.ensures.fits)
 
 pub fill_table-outcome-requires : goal.fill_table-outcome-requires
-fill_table-outcome-requires c = fill_asks _ _ _ (sym c.is_too_little.ensures ∙ c.if-is_too_little.false) c.draw-levels.ensures _ _ (search rules) (search rules)
+fill_table-outcome-requires c = fill_asks _ _ _ (sym c.is_too_little.ensures ∙ c.if-is_too_little.false) c.draw-levels.ensures _ _ (search rules) (search rules) (omega (arith, error_high c.draw-levels.ensures))
 
 pub returns-in-Refused : goal.returns-in-Refused
 returns-in-Refused c = even_back _ _ _ (sym c.is_too_little.ensures ∙ c.if-is_too_little.false) _ (unread c.read_record-found.ensures _ c.in-Refused.is)
