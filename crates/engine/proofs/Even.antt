@@ -31,6 +31,7 @@ words_kept : (x : Given) {before after words words_after : List ℕ} {outcome : 
 unfolding outcome_of
 words_kept x h r e = by (has_no_table x) h.words_without_table (λ f. absurd (table_refused (simp (h.answers, f) at e)))
 
+-- a job that is drawn has an allowed error in range
 pub error_high : {bytes curve targets : List ℕ} {job : Job} {indices : IndexRange} {levels : ℕ} → Drawn bytes job indices levels curve targets
     → job.settings.tolerance ≤ 1000
 error_high d = (sound_job _ _ d.is).tolerance

@@ -100,9 +100,9 @@ unfolding has_no_feed text
 verdict Pass = one_line (text "check pass") tt
 verdict Fail = one_line (text "check fail") tt
 
-unmeasured_one : Lines 1 unmeasured_line
+unmeasured_lem : Lines 1 unmeasured_line
 unfolding has_no_feed text
-unmeasured_one = one_line (text "check none") tt
+unmeasured_lem = one_line (text "check none") tt
 
 one_row : (p nearest even : ℕ) → Lines 1 (row p nearest even)
 one_row p nearest even = one_line _ (field_after _ even (field_after _ nearest (number_no_feed p)))
@@ -128,11 +128,11 @@ lines_by : {bytes work report : List ℕ} → ReportOutcome bytes work report �
 lines_by (by_nearest o) = inl (refused _)
 lines_by (by_even o p) = inl (refused _)
 lines_by (by_check t q) = inl (refused _)
-lines_by (unmeasured t q) = inr (all_lines _ _ _ _ _ _ _ _ unmeasured_one)
+lines_by (unmeasured t q) = inr (all_lines _ _ _ _ _ _ _ _ unmeasured_lem)
 lines_by (passes t q) = inr (all_lines _ _ _ _ _ _ _ _ (verdict Pass))
 lines_by (fails t q) = inr (all_lines _ _ _ _ _ _ _ _ (verdict Fail))
 
--- work of so many words
+-- the report asks of the work its length alone, so words of zero stand for any
 pub whole_lines : (bytes : List ℕ) (words : ℕ) → Lines 1 (report_of bytes words) ⊎ Lines 260 (report_of bytes words)
 whole_lines bytes words =
     let work : List ℕ = tab (λ i. 0) words in
