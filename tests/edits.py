@@ -1,7 +1,7 @@
 """The edits that the prover must refuse, for the two tests that hold them to it.
 
 An edit has a comment line, a line 'refused: WHERE FACT' and replacements as rt reads them, 'file:', 'old:' and 'new:'. WHERE is the function whose contract
-is not met, or the module of proofs/ whose law does not hold, and FACT the goal, or the law or lemma: the error that counts must be there.
+is not met, a method by its own name, or the module of proofs/ whose law does not hold, and FACT the goal, or the law or lemma: the error that counts must be there.
 
 That is the one which rt says of an edit, the first that is more than a name that the proofs no longer find. Where it is at an answer or a law, this is enough:
 the answer is read, and does not prove its goal. Where it is at a goal without an answer, the edit is made in a copy of the repository and checked there, since
@@ -27,8 +27,8 @@ UNFIT = re.compile(
     r'has no `|has no field|is not in scope|is private|was not admitted|only because a proof file names|only by a limit|expected an |cannot continue|→ Type 0` \(expected\)|'
     r'no such module|`rw`: no occurrence of|`rw`: no part of the goal'
 )
-PROOF = r'(?:\./)?proofs/(?:([\w+]+)/(?:Answers|Invariants)|(\w+))\.antt:\d+:\d+: error: `([^`]+)`:'
-GOAL = r'note: src/\S+: it is not proved that '
+PROOF = r'(?:\./)?proofs/(?:(?:[\w+]+/)*([\w+]+)/(?:Answers|Invariants)|(\w+))\.antt:\d+:\d+: error: `([^`]+)`:'
+GOAL = r'note: src/\S+: (?:it is not proved that |`search` found no proof )'
 
 
 def edits_of(kind):
@@ -117,7 +117,7 @@ def first_error(log):
     """The first error's block of lines."""
     block = []
     for line in log.splitlines():
-        starts = ': error' in line or 'it is not proved that' in line
+        starts = ': error' in line or re.search(GOAL, line)
         if block and (starts or not line.startswith('  ')):
             break
         if block or starts:

@@ -2,51 +2,62 @@
 // reader and a writer whose bytes are known it speaks of all that is read, and of all that is written where no write failed.
 #![tactic(auto)]
 
-ghost use Rattle.std.specs.Prelude.{◌≡◌, ◌<◌, ◌≤◌, length, take, OnOk};
-ghost use Rattle.std.specs.Io.KnownBytes.{Appends, Consumes, IsAtEnd};
+ghost use Rattle.std.specs.Prelude.{◌≡◌, ℕ, ◌<◌, ◌≤◌, List, [], length, take, OnOk};
+ghost use Rattle.std.specs.Io.KnownBytes.{Consumes, IsAtEnd};
 ghost use Rattle.calibrate.specs.Program.{ReportsOnFront};
 
 use std::io;
 use std::io::{Read, Write};
+use std::marker::Model;
 
-// What was read: the first `size` bytes of the buffer. `ending` has the failure of the read that was the last, where it failed.
+// The front of the input, as far as it is read; clauses see the list of its bytes. It has room for one byte more than the longest record: what follows it in a
+// longer input changes nothing, and is not read. A buffer of its own: `read` fills the room behind what is read, and an `ArrayVec` does not lend that.
 #[derive(Drop)]
 struct Front {
+    bytes: [u8; 6251],
     size: usize,
-    ending: io::Result<()>,
 }
 
-// Fills the buffer with the next bytes of the input, until it is full, the input ends or a read fails.
-fn read_front<R: Read>(input: &mut R, buffer: &mut [u8]) -> Front
-    ensures length { length buffer.new ≡ length buffer.old }
-    ensures fits { result.size ≤ length buffer.new }
-    ensures taken { Consumes (R.remaining input.old) (R.remaining input.new) (take result.size buffer.new) }
-    ensures whole { OnOk result.ending (result.size < length buffer.new → IsAtEnd (R.remaining input.new)) }
-{
-    let mut size = 0;
-    while size < buffer.len() {
-        match input.read(&mut buffer[size..]) {
-            Ok(0) => break,
-            Ok(n) => size += n,
-            Err(e) => {
-                return Front {
-                    size: size,
-                    ending: Err(e),
-                };
-            }
+impl Model for Front {
+    ghost Value = { List ℕ };
+
+    ghost view = { λ f. take f.size f.bytes };
+
+    ghost invariant = { λ f. f.size ≤ 6251 };
+}
+
+impl Front {
+    fn new() -> Self
+        ensures { result ≡ [] }
+    {
+        Front {
+            bytes: [0; 6251],
+            size: 0,
         }
     }
-    Front {
-        size: size,
-        ending: Ok(()),
-    }
-}
 
-fn print<W: Write>(output: &mut W, text: &[u8], size: usize) -> io::Result<()>
-    requires { size ≤ length text.now }
-    ensures { OnOk result (Appends (W.contents output.old) (W.contents output.new) (take size text.now)) }
-{
-    output.write_all(&text[..size])
+    fn bytes(&self) -> &[u8]
+        ensures value { result.now ≡ self.now }
+        ensures fits { length result.now ≤ 6251 }
+    {
+        &self.bytes[..self.size]
+    }
+
+    // Takes the next bytes of the input, until there is no more room, the input ends or a read fails.
+    fn read<R: Read>(&mut self, input: &mut R) -> io::Result<()>
+        requires { self.old ≡ [] }
+        ensures taken { Consumes (R.remaining input.old) (R.remaining input.new) self.new }
+        ensures whole { OnOk result (length self.new < 6251 → IsAtEnd (R.remaining input.new)) }
+    {
+        // No `for`: it counts what was read, and ends where the input does.
+        while self.size < 6251 {
+            match input.read(&mut self.bytes[self.size..])? {
+                0 => break,
+                n => self.size += n,
+            }
+        }
+        Ok(())
+    }
 }
 
 // How the reading and the writing ended.
@@ -60,18 +71,12 @@ struct Ending {
 fn calibrate<R: Read, W: Write>(input: &mut R, output: &mut W) -> Ending
     ensures { ReportsOnFront (R.remaining input.old) (R.remaining input.new) (W.contents output.old) (W.contents output.new) result.reading result.writing }
 {
-    // One byte more than the longest record: what follows it in a longer input changes nothing, and is not read.
-    let mut record = [0u8; 6251];
-    let front = read_front(input, &mut record);
-    let read = front.size;
-    let mut work = [0u32; 8192];
-    let report = report::report_on(&record[..read], &mut work);
-    let size = report.size;
-    let writing = print(output, &report.text, size);
-    Ending {
-        reading: front.ending,
-        writing: writing,
-    }
+    let mut front = Front::new();
+    let reading = front.read(input);
+    let mut work = [0; 8192];
+    let report = report::report_on(front.bytes(), &mut work);
+    let writing = output.write_all(report.text());
+    Ending { reading, writing }
 }
 
 fn main(rt: HostRuntime) -> io::Result<()> {

@@ -1,77 +1,73 @@
 -- Test 12 reading by reading, and the deviations filled patch by patch.
 -- Assumes nothing.
-use mathlib.Core.Path.{◌≡◌, refl, sym, ap, ◌∙◌}
+use mathlib.Core.Path.{◌≡◌, refl, sym, ◌∙◌}
 use mathlib.Core.Bool.{Bool, true, false, ◌||◌, ◌&&◌}
 use mathlib.Core.List.{List, ◌++◌}
-use Prim.Native.Nat.{ℕ, ◌+◌, ◌≤◌, ◌<◌}
+use Prim.Native.Nat.{ℕ, ◌+◌, ◌≤◌, ◌<◌, zero-le}
 use native.Mathlib.Omega.{arith}
 use lib.IntN.{ℤ}
-use lib.ListN.{length, get_or, drop, set}
-use lib.Seq.{length_front, length-take-le}
+use lib.ListN.{length, get_or, take, drop, set, length-take}
+use lib.Seq.{get_or-take}
 use mir.Syntax.{w32}
 use mir.Val.{to_z, of_z}
 use mir.ValLaws.{to_z-of_z}
-use Rattle.laws.specs.Search.{any, all}
-use Rattle.laws.specs.Fill.{tab}
-use Rattle.laws.proofs.Search.{any_next, all_next}
-use Rattle.laws.proofs.Fill.{length_tab, fill}
+use Rattle.laws.specs.Search.{all}
+use Rattle.laws.proofs.Search.{any_intro, any_none, all_next}
+use Rattle.laws.proofs.Cases.{is_yes, yes_is}
+use Rattle.std.specs.Prelude.{MatchBool}
+use Rattle.std.specs.List.{HoldsAt, AllWithin}
+use Rattle.laws.proofs.Fill.{Filled, filled_none, filled_more}
 use Rattle.gsdf.specs.Ends.{below_table, above_table}
 use Rattle.contrast.specs.Deviation.{deviation_of, keeps_limit}
-use Rattle.contrast.specs.Check.{shown, some_outside, expected_luminance, expected, at_pair, deviations_of, Covers, InPlace, Pair}
+use Rattle.target.proofs.Aiming.{filled_all}
+use Rattle.target.specs.declared.IndexRange.{IndexRange}
+use Rattle.contrast.specs.Check.{shown, some_outside, expected_luminance, expected, at_pair, deviations_of, limit_parts, Covers, InPlace, Pair}
+use Rattle.contrast.specs.declared.Limit.{Limit}
 use Rattle.contrast.proofs.Laws.{expected_is, pair_at_lem, deviation_fits}
 
 -- ---- test 12
 
--- one of the first i luminances is outside the table
-pub record Testing (v : ℕ → ℕ) (outside : Bool) (i : ℕ) : Type 0 where
-  pub inside : i ≤ 18
-  pub outside_is : outside ≡ any (λ i. below_table (v i) || above_table (v i)) i
+-- the luminance of a reading is outside the table
+abbrev pub off : (added reading : ℕ) → Bool
+off added reading = below_table (added + reading) || above_table (added + reading)
 
-pub testing_none : (v : ℕ → ℕ) → Testing v false 0
-unfolding any
-testing_none v = record { inside = omega arith; outside_is = refl }
-
-pub testing_more : (added : ℕ) (readings : List ℕ) {outside : Bool} {i : ℕ} → Testing (shown added readings) outside i → i < 18
-    → (below above : Bool) → below ≡ below_table (added + get_or readings i 0) → above ≡ above_table (added + get_or readings i 0)
-    → Testing (shown added readings) (outside || (below || above)) (i + 1)
-unfolding shown
-testing_more added readings t h below above b a = record { inside = omega arith; outside_is = rw (t.outside_is, b, a) (sym (any_next _ _)) }
-
-pub testing_all : {v : ℕ → ℕ} {outside : Bool} {i : ℕ} → Testing v outside i → 18 ≤ i → outside ≡ some_outside v
-unfolding some_outside
-testing_all {i = i} t h =
-    let e : i ≡ 18 = omega (arith, t.inside) in
-    (rw e at t).outside_is
+-- one of the first 18 is, or none
+pub tested_is : (added : ℕ) (readings : List ℕ) → 18 ≤ length readings → (outside : Bool)
+    → MatchBool outside ((k : ℕ) × (k < length (take 18 readings)) × HoldsAt (λ x. off added x ≡ true) (take 18 readings) k)
+    (AllWithin (λ x. off added x ≡ false) (take 18 readings) 0 (length (take 18 readings)))
+    → outside ≡ some_outside (shown added readings)
+unfolding some_outside shown
+tested_is added readings long true h =
+    let l : h.0 < 18 = omega (arith, h.1, length-take 18 readings) in
+    sym (is_yes _ (any_intro _ 18 h.0 l (yes_is (rw (get_or-take 18 readings h.0 0 l) at (h.2 0)))))
+tested_is added readings long false h =
+    let none : (i : ℕ) → i < 18 → off added (get_or readings i 0) ≡ false =
+    λ i l. rw (get_or-take 18 readings i 0 l) at (h i 0 zero-le (omega (arith, length-take 18 readings))) in
+    sym (any_none _ 18 (λ i l t. rw (none i l) at t))
 
 -- ---- the deviations
 
 -- the first i deviations are filled, each of those pairs is judged, and p and c are the luminances at patch i
-pub record Filling (parts : ℕ) (v : ℕ → ℕ) (before places : List ℤ) (kept : Bool) (p c i : ℕ) : Type 0 where
-  pub inside : i ≤ 17
+pub record Filling (limit : Limit) (v : ℕ → ℕ) (before places : List ℤ) (kept : Bool) (p c i : ℕ) : Type 0 where
   pub shown_is : p ≡ v i
   pub expected_is : c ≡ expected v i
-  pub places_are : places ≡ tab (at_pair deviation_of v) i ++ drop i before
-  pub kept_is : kept ≡ all (at_pair (keeps_limit parts) v) i
+  pub filled : Filled (at_pair deviation_of v) before places i
+  pub kept_is : kept ≡ all (at_pair (keeps_limit (limit_parts limit)) v) i
 
-module _ {v : ℕ → ℕ} {first range : ℕ} (s : Covers v first range) where
-  pub filling_none : (parts : ℕ) (before : List ℤ) {p c : ℕ} → p ≡ v 0 → c ≡ expected_luminance first range 0 → Filling parts v before before true p c 0
-  unfolding tab all
-  filling_none parts before p-is c-is = record {
-    inside = omega arith;
+module _ {v : ℕ → ℕ} {indices : IndexRange} (s : Covers v indices) where
+  pub filling_none : (limit : Limit) (before : List ℤ) {p c : ℕ} → p ≡ v 0 → c ≡ expected_luminance indices.low.0 indices.range.0 0
+      → Filling limit v before before true p c 0
+  unfolding all
+  filling_none limit before p-is c-is = record {
     shown_is = p-is;
     expected_is = c-is ∙ expected_is s 0;
-    places_are = refl;
+    filled = filled_none _ before;
     kept_is = refl;
   }
 
-  module _ {parts : ℕ} {before places : List ℤ} {kept : Bool} {p c i : ℕ} (f : Filling parts v before places kept p c i) where
-    pub filling_length : 17 ≤ length before → length places ≡ length before
-    filling_length l =
-        ap length f.places_are
-        ∙ length_front before (tab (at_pair deviation_of v) i) i (length_tab (at_pair deviation_of v) i ∙ sym (length-take-le i before (omega (arith, f.inside))))
-
+  module _ {limit : Limit} {before places : List ℤ} {kept : Bool} {p c i : ℕ} (f : Filling limit v before places kept p c i) where
     -- the luminances at the next patch
-    module _ (more : i < 17) {n h : ℕ} (n_is : n ≡ v (i + 1)) (h_is : h ≡ expected_luminance first range (i + 1)) where
+    module _ (more : i < 17) {n h : ℕ} (n_is : n ≡ v (i + 1)) (h_is : h ≡ expected_luminance indices.low.0 indices.range.0 (i + 1)) where
       pub filling_pair : Pair p n c h
       filling_pair = rw (f.shown_is, n_is, f.expected_is, h_is, expected_is s (i + 1)) (pair_at_lem s i more)
 
@@ -79,20 +75,18 @@ module _ {v : ℕ → ℕ} {first range : ℕ} (s : Covers v first range) where
       unfolding at_pair
       at_patch g = rw (f.shown_is, n_is, f.expected_is, h_is, expected_is s (i + 1))
 
-      pub filling_more : 17 ≤ length before → (d : ℤ) (keeps : Bool) → d ≡ deviation_of p n c h → keeps ≡ keeps_limit parts p n c h
-          → Filling parts v before (set places i (to_z w32 (of_z w32 d))) (kept && keeps) n h (i + 1)
+      pub filling_more : i < length before → (d : ℤ) (keeps : Bool) → d ≡ deviation_of p n c h → keeps ≡ keeps_limit (limit_parts limit) p n c h
+          → Filling limit v before (set places i (to_z w32 (of_z w32 d))) (kept && keeps) n h (i + 1)
       filling_more l d keeps d-is k-is = record {
-        inside = omega arith;
         shown_is = n_is;
         expected_is = h_is ∙ expected_is s (i + 1);
-        places_are =
-            rw (d-is ∙ at_patch deviation_of, to_z-of_z w32 _ (deviation_fits s i more), f.places_are)
-            (fill (at_pair deviation_of v) before i (omega arith));
-        kept_is = rw (f.kept_is, k-is ∙ at_patch (keeps_limit parts)) (sym (all_next (at_pair (keeps_limit parts) v) i));
+        filled = filled_more _ before places i _ f.filled l (rw (d-is ∙ at_patch deviation_of) (to_z-of_z w32 _ (deviation_fits s i more)));
+        kept_is = rw (f.kept_is, k-is ∙ at_patch (keeps_limit (limit_parts limit))) (sym (all_next (at_pair (keeps_limit (limit_parts limit)) v) i));
       }
 
-    pub filling_all : 17 ≤ i → InPlace parts v kept before places
+    pub filling_all : (d : List ℤ) → i ≡ 17 → length before ≤ i → InPlace limit v kept d (places ++ drop 17 d)
     unfolding deviations_of
-    filling_all h =
-        let e : i ≡ 17 = omega (arith, f.inside) in
-        record { places = (rw e at f).places_are; verdict = (rw e at f).kept_is }
+    filling_all d e l = record {
+      places = rw (filled_all f.filled l, e) refl;
+      verdict = (rw e at f).kept_is;
+    }

@@ -4,13 +4,13 @@ use mathlib.Core.Path.{◌≡◌, refl, sym, ◌∙◌}
 use mathlib.Core.Bool.{true, false, ◌||◌}
 use mathlib.Core.Logic.{⊎_elim}
 use Prim.Native.Nat.{ℕ, ◌+◌, ◌-◌, ◌*◌, ◌/◌, ◌≤◌, ◌<◌}
-use native.Mathlib.Nat.{mul-le-mul_left}
 use native.Mathlib.Omega.{arith}
 use lib.IntN.{pos}
 use lib.ListN.{length, get_or}
 use mir.Syntax.{w32}
 use mir.Val.{SFits}
 use mir.Facts.{or_no}
+use borrow.Author.Tests.{le-ltb, lt-ltb}
 use Rattle.laws.proofs.Cases.{is_no, yes_is, no_is, le_or_lt}
 use Rattle.laws.proofs.Numbers.{times_next}
 use Rattle.laws.proofs.Search.{none_of}
@@ -19,7 +19,10 @@ use Rattle.laws.proofs.Signed.{minus_below, minus_not_below}
 use Rattle.gsdf.specs.DisplayFunction.{index_of, InTable}
 use Rattle.gsdf.specs.Ends.{below_table, above_table}
 use Rattle.gsdf.proofs.Ends.{not_below, not_above}
-use Rattle.gsdf.proofs.Laws.{luminance_far, luminance_mono, luminance_high, index_low, index_high}
+use Rattle.gsdf.proofs.Laws.{luminance_far, luminance_mono, index_low, index_high}
+use Rattle.target.specs.Target.{range_of, too_narrow, index_at, target_at, Aims}
+use Rattle.target.specs.declared.IndexRange.{IndexRange}
+use Rattle.target.proofs.Laws.{index_to, target_high}
 use Rattle.contrast.specs.Deviation.{deviation_of}
 use Rattle.contrast.specs.Check.{some_outside, check_range, check_too_narrow, expected_luminance, expected, at_pair, deviations_of, Covers, Pair}
 use Rattle.contrast.proofs.Bounds.{per_mille_fits}
@@ -46,59 +49,65 @@ module _ (v : ℕ → ℕ) where
   pub wide_of : check_too_narrow v ≡ false → index_of (v 0) + 10000 ≤ index_of (v 17)
   wide_of e = ⊎_elim (λ h. h) (λ h. absurd (yes_is (sym e ∙ is_narrow h))) (le_or_lt (index_of (v 0) + 10000) (index_of (v 17)))
 
+-- the code asks it of N, which is 0 where the last index is the lower
+pub narrow_is : (v : ℕ → ℕ) → too_narrow (range_of (v 0) (v 17)).range.0 ≡ check_too_narrow v
+unfolding range_of
+narrow_is v =
+    ⊎_elim
+    (λ h. le-ltb (index_of (v 17) - index_of (v 0)) 10000 (omega arith) ∙ sym (is_wide v h))
+    (λ h. lt-ltb (index_of (v 17) - index_of (v 0)) 10000 (omega (arith, index_low (v 0))) ∙ sym (is_narrow v h))
+    (le_or_lt (index_of (v 0) + 10000) (index_of (v 17)))
+
 -- what passes both covers the range of its ends
-pub covers : (v : ℕ → ℕ) → some_outside v ≡ false → check_too_narrow v ≡ false → Covers v (index_of (v 0)) (index_of (v 17) - index_of (v 0))
+pub covers : (v : ℕ → ℕ) → some_outside v ≡ false → check_too_narrow v ≡ false → Covers v (range_of (v 0) (v 17))
+unfolding range_of
 covers v e n = record {
   inside = all_inside v e;
-  first_is = refl;
-  range_is = refl;
-  last_is = omega (arith, wide_of v n);
+  is = refl;
   wide = omega (arith, wide_of v n);
 }
 
--- ---- the luminances expected in a range of indices
+-- ---- the luminances expected in a range of indices: one patch on, the index rises by 588 or more, and the luminance by 276 or more
 
-module _ (first range : ℕ) (low : 100 ≤ first) (high : first + range ≤ 102300) where
-  pub part_fits : (i : ℕ) → i ≤ 17 → first + range * i / 17 ≤ 102300
-  part_fits i h = omega (arith, mul-le-mul_left range h)
-
-  luminance_top : (i : ℕ) → i ≤ 17 → expected_luminance first range i ≤ 39934040
-  unfolding expected_luminance
-  luminance_top i h = luminance_high (first + range * i / 17) (omega arith) (part_fits i h)
-
-  -- one patch on, the index rises by 588 or more, and the luminance by 276 or more
-  luminance_next : 10000 ≤ range → (i : ℕ) → i < 17 → expected_luminance first range i + 276 ≤ expected_luminance first range (i + 1)
-  unfolding expected_luminance
-  luminance_next wide i h =
-      let here = first + range * i / 17 in
-      let next = first + range * (i + 1) / 17 in
-      let far : here + 588 ≤ next = omega (arith, times_next range i) in
-      let top : next ≤ 102300 = part_fits (i + 1) (omega arith) in
-      omega (
-        arith,
-        luminance_far here 588 (omega arith) (omega arith),
-        luminance_mono (here + 588) next (omega arith) far top,
-      )
+luminance_next : (first range : ℕ) → 100 ≤ first → first + range ≤ 102300 → 10000 ≤ range → (i : ℕ) → i < 17
+    → expected_luminance first range i + 276 ≤ expected_luminance first range (i + 1)
+unfolding target_at index_at
+luminance_next first range low high wide i h =
+    let here = first + range * i / 17 in
+    let next = first + range * (i + 1) / 17 in
+    let far : here + 588 ≤ next = omega (arith, times_next range i) in
+    let top : next ≤ 102300 = index_to first range 17 low high (omega arith) (i + 1) (omega arith) in
+    omega (
+      arith,
+      luminance_far here 588 (omega arith) (omega arith),
+      luminance_mono (here + 588) next (omega arith) far top,
+    )
 
 -- ---- a check that passes both tests
 
-module _ {v : ℕ → ℕ} {first range : ℕ} (s : Covers v first range) where
-  pub first_low : 100 ≤ first
-  first_low = rw s.first_is (index_low (v 0))
+module _ {v : ℕ → ℕ} {indices : IndexRange} (s : Covers v indices) where
+  pub aims : {top : ℕ} → 1 ≤ top → top ≤ 1023 → Aims indices.low.0 indices.range.0 top
+  unfolding range_of
+  aims some most = rw s.is (record {
+    first = index_low (v 0);
+    last = omega (arith, index_high (v 0), index_high (v 17));
+    some = some;
+    most = most;
+  })
 
-  pub last_high : first + range ≤ 102300
-  last_high = rw s.last_is (index_high (v 17))
+  aims_17 : Aims indices.low.0 indices.range.0 17
+  aims_17 = aims (omega arith) (omega arith)
 
-  pub expected_is : (i : ℕ) → expected_luminance first range i ≡ expected v i
-  unfolding expected
-  expected_is i = rw (s.first_is, s.range_is)
+  pub expected_is : (i : ℕ) → expected_luminance indices.low.0 indices.range.0 i ≡ expected v i
+  unfolding expected range_of
+  expected_is i = rw s.is
 
   -- the expected luminances rise by 276 or more from a patch to the next
   pub expected_rises : (i : ℕ) → i < 17 → expected v i + 276 ≤ expected v (i + 1)
-  expected_rises i h = rw (← expected_is i, ← expected_is (i + 1)) (luminance_next first range first_low last_high s.wide i h)
+  expected_rises i h = rw (← expected_is i, ← expected_is (i + 1)) (luminance_next indices.low.0 indices.range.0 aims_17.first aims_17.last s.wide i h)
 
   pub expected_high : (i : ℕ) → i ≤ 17 → expected v i ≤ 39934040
-  expected_high i h = rw (← expected_is i) (luminance_top first range first_low last_high i h)
+  expected_high i h = rw (← expected_is i) (target_high indices.low.0 indices.range.0 17 aims_17.first aims_17.last aims_17.some i h)
 
   -- so each pair has a deviation, and it is a number of 32 bits
   pub pair_at_lem : (i : ℕ) → i < 17 → Pair (v i) (v (i + 1)) (expected v i) (expected v (i + 1))

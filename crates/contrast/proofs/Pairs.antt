@@ -11,12 +11,14 @@ use mir.Val.{Fits, SFits, to_z, of_z}
 use mir.ValLaws.{to_z-of_z, to_z_pos}
 use Rattle.laws.proofs.Signed.{signed_fits, abs_minus, abs_minus_le, abs_times}
 use Rattle.contrast.specs.Deviation.{floor_of, shown_contrast, expected_contrast, excess, deviation_of, keeps_limit}
-use Rattle.contrast.specs.Check.{Pair}
-use Rattle.contrast.proofs.Bounds.{product_top, shown_top, expected_top, excess_top, excess_fits, thousand_fits, per_mille_fits, per_mille_wide}
+use Rattle.contrast.specs.Check.{limit_parts, Pair}
+use Rattle.contrast.specs.declared.Limit.{Limit}
+use Rattle.contrast.specs.declared.Limit.TheVariants.{TenPercent, TwentyPercent}
+use Rattle.contrast.proofs.Bounds.{shown_top, expected_top, excess_top, excess_fits, thousand_fits, per_mille_fits, per_mille_wide}
 
--- Y
-pub product_fits : (a b : ℕ) → a ≤ 39934040 → b ≤ 79868080 → Fits w64 (a * b)
-product_fits a b ha hb = record { fits = omega (arith, product_top a b ha hb) }
+parts_most : (limit : Limit) → limit_parts limit ≤ 10
+parts_most TenPercent = omega arith
+parts_most TwentyPercent = omega arith
 
 -- ---- of luminances in the table
 
@@ -92,10 +94,10 @@ module _ {p s c h : ℕ} (st : Pair p s c h) where
     pub deviation_is : to_z w32 (of_z w32 (to_z w64 (of_z w64 r))) ≡ deviation_of p s c h
     deviation_is = rw (r_is, to_z-of_z w64 _ (per_mille_wide st)) (to_z-of_z w32 _ (per_mille_fits st))
 
-  module _ {m : ℕ} (m_is : m ≡ nat_abs (excess p s c h)) (parts : ℕ) where
-    pub parts_fit : parts ≤ 10 → Fits w64 (m * parts)
-    parts_fit h = rw m_is (record { fits = omega (arith, mul-le-mul (excess_top st) h) })
+  module _ {m : ℕ} (m_is : m ≡ nat_abs (excess p s c h)) (limit : Limit) {parts : ℕ} (p_is : parts ≡ limit_parts limit) where
+    pub parts_fit : Fits w64 (m * parts)
+    parts_fit = rw (m_is, p_is) (record { fits = omega (arith, mul-le-mul (excess_top st) (parts_most limit)) })
 
-    pub judgement_is : {y : ℕ} → y ≡ expected_contrast p s c h → leb (m * parts) y ≡ keeps_limit parts p s c h
+    pub judgement_is : {y : ℕ} → y ≡ expected_contrast p s c h → leb (m * parts) y ≡ keeps_limit (limit_parts limit) p s c h
     unfolding keeps_limit
-    judgement_is y-is = rw (m_is, y-is)
+    judgement_is y-is = rw (m_is, p_is, y-is)

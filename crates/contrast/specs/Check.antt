@@ -1,18 +1,23 @@
 -- The contrast check of 18 luminances v(0) to v(17), with the light of the room in them.
-use Rattle.std.specs.Prelude.{ℕ, ◌+◌, ◌-◌, ◌*◌, ◌/◌, ◌≤◌, ◌<◌, ◌≡◌, Bool, cond, ◌||◌, List, ◌++◌, ℤ, pos, ◌-ℤ◌, length, get_or, drop}
+use Rattle.std.specs.Prelude.{ℕ, ◌+◌, ◌-◌, ◌≤◌, ◌<◌, ◌≡◌, Bool, cond, ◌||◌, List, ◌++◌, ℤ, pos, ◌-ℤ◌, length, get_or, drop}
 use Rattle.std.specs.Int.Signed.{lt_z}
 use Rattle.laws.specs.Search.{any, all}
 use Rattle.laws.specs.Fill.{tab}
-use Rattle.gsdf.specs.Table.{table_b1}
-use Rattle.gsdf.specs.DisplayFunction.{luminance_of, index_of, InTable}
+use Rattle.std.specs.declared.result.Result.{Result}
+use Rattle.std.specs.declared.result.Result.TheVariants.{Ok, Err}
+use Rattle.gsdf.specs.DisplayFunction.{index_of, InTable}
 use Rattle.gsdf.specs.Ends.{below_table, above_table}
+use Rattle.record.specs.declared.Class.{Class}
+use Rattle.record.specs.declared.Class.TheVariants.{Primary, Secondary}
+use Rattle.record.specs.declared.Refusal.{Refusal}
+use Rattle.record.specs.declared.Refusal.TheVariants.{CheckOutsideTable, CheckRangeTooNarrow}
+use Rattle.target.specs.Target.{range_of, target_at}
+use Rattle.target.specs.declared.IndexRange.{IndexRange}
 use Rattle.contrast.specs.Deviation.{deviation_of, keeps_limit}
 use Rattle.contrast.specs.declared.Limit.{Limit}
 use Rattle.contrast.specs.declared.Limit.TheVariants.{TenPercent, TwentyPercent}
 use Rattle.contrast.specs.declared.Verdict.{Verdict}
 use Rattle.contrast.specs.declared.Verdict.TheVariants.{Pass, Fail}
-use Rattle.contrast.specs.declared.Contrast.{Contrast}
-use Rattle.contrast.specs.declared.Contrast.TheVariants.{Judged, OutsideTable, CheckTooNarrow}
 
 -- v(i) of document 01: A and reading i, which is that of the patch shown at P-value 15 × i
 unfoldable pub shown : (added : ℕ) (readings : List ℕ) (i : ℕ) → ℕ
@@ -30,9 +35,9 @@ check_range v = pos (index_of (v 17)) -ℤ pos (index_of (v 0))
 unfoldable pub check_too_narrow : (v : ℕ → ℕ) → Bool
 check_too_narrow v = lt_z (check_range v) (pos 10000)
 
--- the luminance expected at patch i, in a range of indices that begins at first
-unfoldable pub expected_luminance : (first range i : ℕ) → ℕ
-expected_luminance first range i = luminance_of (first + range * i / 17)
+-- the luminance expected at patch i, in a range of indices that begins at first: the target of the i-th of 17 steps
+abbrev pub expected_luminance : (first range i : ℕ) → ℕ
+expected_luminance first range i = target_at first range 17 i
 
 -- e(i) of document 01, for an Nc of 10,000 or more
 unfoldable pub expected : (v : ℕ → ℕ) (i : ℕ) → ℕ
@@ -46,6 +51,11 @@ at_pair f v i = f (v i) (v (i + 1)) (expected v i) (expected v (i + 1))
 unfoldable pub deviations_of : (v : ℕ → ℕ) → List ℤ
 deviations_of v = tab (at_pair deviation_of v) 17
 
+-- the limits of TG-18
+abbrev pub limit_of : Class → Limit
+limit_of Primary = TenPercent
+limit_of Secondary = TwentyPercent
+
 -- one part in so many of the contrast expected
 abbrev pub limit_parts : Limit → ℕ
 limit_parts TenPercent = 10
@@ -56,8 +66,8 @@ unfoldable pub verdict_of : Limit → (v : ℕ → ℕ) → Verdict
 verdict_of limit v = cond (all (at_pair (keeps_limit (limit_parts limit)) v) 17) Pass Fail
 
 -- tests 12 and 13 in their order, then the verdict
-unfoldable pub contrast_of : Limit → (v : ℕ → ℕ) → Contrast
-contrast_of limit v = cond (some_outside v) OutsideTable (cond (check_too_narrow v) CheckTooNarrow (Judged (verdict_of limit v)))
+unfoldable pub contrast_of : Limit → (v : ℕ → ℕ) → Result Verdict Refusal
+contrast_of limit v = cond (some_outside v) (Err CheckOutsideTable) (cond (check_too_narrow v) (Err CheckRangeTooNarrow) (Ok (verdict_of limit v)))
 
 -- the lent places afterwards: the deviations and the later places as they were, or all as they were
 unfoldable pub deviations_over : (v : ℕ → ℕ) (before : List ℤ) → List ℤ
@@ -65,29 +75,26 @@ deviations_over v before = cond (some_outside v || check_too_narrow v) before (d
 
 -- ---- what the functions ask and promise
 
--- Table B-1, 18 readings and 17 places
-pub record Checkable (table readings : List ℕ) (places : List ℤ) : Type 0 where
-  pub lent : table ≡ table_b1
+-- 18 readings and 17 places
+pub record Checkable (readings : List ℕ) (places : List ℤ) : Type 0 where
   pub patches : 18 ≤ length readings
   pub fits : 17 ≤ length places
 
 -- what a check leaves: its answer, and the lent places
-pub record Checked (limit : Limit) (v : ℕ → ℕ) (answer : Contrast) (before after : List ℤ) : Type 0 where
+pub record Checked (limit : Limit) (v : ℕ → ℕ) (answer : Result Verdict Refusal) (before after : List ℤ) : Type 0 where
   pub answers : answer ≡ contrast_of limit v
   pub places : after ≡ deviations_over v before
 
--- luminances in the table; the indices of the first and the last bound a range that begins at first and is 10,000 or more
-pub record Covers (v : ℕ → ℕ) (first range : ℕ) : Type 0 where
+-- luminances in the table, and the range from the index of the first to that of the last, which is 10,000 or more
+pub record Covers (v : ℕ → ℕ) (indices : IndexRange) : Type 0 where
   pub inside : (i : ℕ) → i < 18 → InTable (v i)
-  pub first_is : first ≡ index_of (v 0)
-  pub range_is : range ≡ index_of (v 17) - index_of (v 0)
-  pub last_is : first + range ≡ index_of (v 17)
-  pub wide : 10000 ≤ range
+  pub is : indices ≡ range_of (v 0) (v 17)
+  pub wide : 10000 ≤ indices.range.0
 
 -- the deviations in front and the later places as they were, and whether each pair keeps the limit
-pub record InPlace (parts : ℕ) (v : ℕ → ℕ) (kept : Bool) (before after : List ℤ) : Type 0 where
+pub record InPlace (limit : Limit) (v : ℕ → ℕ) (kept : Bool) (before after : List ℤ) : Type 0 where
   pub places : after ≡ deviations_of v ++ drop 17 before
-  pub verdict : kept ≡ all (at_pair (keeps_limit parts) v) 17
+  pub verdict : kept ≡ all (at_pair (keeps_limit (limit_parts limit)) v) 17
 
 -- the luminances of a pair: those shown are in the table, and those expected are 276 or more apart, as 588 indices are (10,000 / 17), so that the
 -- deviation has 32 bits

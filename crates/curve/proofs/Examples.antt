@@ -1,8 +1,6 @@
 -- The marked examples of document 01 for the characteristic curve.
 -- Assumes nothing.
-use Prim.Native.Nat.{ℕ}
-use mathlib.Core.Path.{◌≡◌, refl}
-use mathlib.Core.List.{List, [], ◌∷◌}
+use Rattle.std.proofs.Common.{ℕ, ◌≡◌, refl, List, [], ◌∷◌}
 use Rattle.laws.specs.Search.{lowest}
 use Rattle.curve.specs.Curve.{interpolate, pair_at, by_pair, curve_at}
 

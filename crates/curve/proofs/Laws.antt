@@ -1,16 +1,9 @@
 -- The laws of the characteristic curve.
 -- Assumes nothing.
-use mathlib.Core.Path.{◌≡◌, sym, ◌∙◌}
-use mathlib.Core.Logic.{⊎_elim}
-use mathlib.Core.Bool.{Bool}
-use mathlib.Core.List.{List}
-use Prim.Native.Nat.{ℕ, suc, zero, ◌+◌, ◌-◌, ◌≤◌, ◌<◌, zero-le}
-use native.Mathlib.Nat.{le_refl, le_trans, eq-or-lt_of_le, not-suc-le-zero}
-use native.Mathlib.Numerals.{add-one}
-use native.Mathlib.Omega.{arith}
-use lib.ListN.{length, get_or}
-use lib.Dec.{leb}
-use mir.Facts.{leb_yes, yes_leb, clash}
+use Rattle.std.proofs.Common.{◌≡◌, sym, ◌∙◌, ⊎_elim, Bool, List, ℕ, suc, zero, ◌+◌, ◌-◌, ◌≤◌, ◌<◌, le_refl, le_trans, zero-le, add-one, arith, length, get_or}
+use Rattle.std.proofs.Math.Dec.{leb}
+use Rattle.std.proofs.Math.Facts.{leb_yes, yes_leb, clash}
+use Rattle.std.proofs.Math.Nat.{eq-or-lt_of_le, not-suc-le-zero}
 use Rattle.laws.specs.Rises.{NeverFalls}
 use Rattle.laws.proofs.Cases.{le_or_lt}
 use Rattle.laws.proofs.Rises.{keeps_by_steps}

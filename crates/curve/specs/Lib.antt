@@ -1,3 +1,4 @@
 pub mod Room
 pub mod Curve
+pub mod Line
 pub mod Walk

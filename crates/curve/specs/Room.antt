@@ -17,3 +17,8 @@ added_luminance Telescopic room = 0
 -- the room mark, by A0 and the first sweep reading as recorded
 unfoldable pub room_mark : (room first : ℕ) → RoomMark
 room_mark room first = cond (leb (4 * room) first) Low High
+
+-- the room mark as a number; document 01 has words alone
+abbrev pub mark_number : RoomMark → ℕ
+mark_number Low = 0
+mark_number High = 1

@@ -1,69 +1,73 @@
 -- The contrast check of a record: each way that the operation ends.
 -- Assumes nothing.
-use mathlib.Core.Path.{◌≡◌, refl, sym, ◌∙◌}
+use mathlib.Core.Path.{◌≡◌, refl, sym, ap, subst, ◌∙◌}
 use mathlib.Core.List.{List}
-use mathlib.Core.Logic.{inl, inr, ⊎_elim}
-use Prim.Native.Nat.{ℕ, ◌+◌, ◌≤◌, ◌<◌}
+use mathlib.Core.Logic.{⊎_elim}
+use Prim.Native.Nat.{ℕ, ◌≤◌, ◌<◌}
 use lib.Dec.{eqb}
 use lib.IntN.{ℤ}
-use lib.ListN.{length, take}
+use lib.ListN.{length}
 use mir.Facts.{or_yes, eqb_yes}
 use borrow.Author.Tests.{le-ltb, lt-ltb}
-use Rattle.record.specs.Sections.{sections, check_in}
-use Rattle.record.specs.Reader.{ReadFrom}
+use Rattle.std.specs.Prelude.{Option, Some, None, Result, Ok, Err}
+use Rattle.record.specs.Sections.{after, sections, check_in}
 use Rattle.record.specs.declared.Refusal.{Refusal}
 use Rattle.record.specs.declared.Refusal.TheVariants.{LentTooShort}
-use Rattle.record.specs.declared.Job.{Job}
-use Rattle.record.specs.declared.JobRecord.{JobRecord}
-use Rattle.record.specs.declared.Answer.TheVariants.{Accepted}
-use Rattle.target.specs.declared.IndexRange.{IndexRange}
-use Rattle.engine.specs.Sound.{Soundness, unsound, soundness, added_of, range_tests}
+use Rattle.record.specs.Reader.{values}
+use Rattle.record.proofs.Accepted.{accepted_job}
+use Rattle.record.proofs.Fields.{fields_length}
+use Rattle.contrast.specs.Check.{shown, Checked, limit_of}
+use Rattle.contrast.specs.declared.Limit.{Limit}
+use Rattle.contrast.specs.declared.Verdict.{Verdict}
+use Rattle.engine.specs.Sound.{SoundJob, soundness, added_of}
 use Rattle.engine.specs.Drawing.{PassedTests}
-use Rattle.engine.specs.Check.{check_after, check_answer, places_over, check_lent, CheckPromise}
-use Rattle.engine.specs.Checking.{tested_by, CheckFront, JobChecked}
-use Rattle.engine.specs.declared.CheckAnswer.{CheckAnswer}
-use Rattle.engine.specs.declared.CheckAnswer.TheVariants.{Refused}
-use Rattle.engine.specs.declared.Tested.{Tested}
-use Rattle.engine.specs.declared.Tested.TheVariants.{Passed, Failed}
-use Rattle.engine.proofs.Measuring.{kept}
-use Rattle.engine.proofs.Reading.{measurable, accepted, sound_as, sent_back, passed_tests}
-use Rattle.engine.proofs.Tests.{failed_fault, passed_wide}
+use Rattle.engine.specs.Check.{check_of, check_after, check_answer, places_of, places_over, check_lent, CheckPromise}
+use Rattle.engine.specs.declared.Light.{Light}
+use Rattle.engine.specs.declared.TestedJob.{TestedJob}
+use Rattle.engine.proofs.Measuring.{made_of, kept}
+use Rattle.engine.proofs.Reading.{sound_as, check_is, display_of}
 use Rattle.engine.proofs.CheckOutcomes.{promised}
 
+-- where some readings of the check are read, all 18 are
+pub all_read : {bytes : List ℕ} {tested : TestedJob} → PassedTests bytes tested → (tested.found.check.count ≡ 0 → ⊥) → tested.found.check.count ≡ 18
+all_read {bytes = bytes} {tested = tested} p some =
+    let k = length (check_in (sections bytes)) in
+    let e : k ≡ tested.found.check.count = rw (← check_is p.read, fields_length) refl in
+    sym e ∙ ⊎_elim (λ z. absurd (some (sym e ∙ eqb_yes z))) (λ z. eqb_yes z) (or_yes (eqb k 0) (eqb k 18) (accepted_job bytes tested.job p.accepted).patches)
+
 module _ (bytes : List ℕ) (before : List ℤ) where
-  pub check_short : length before < 17 → CheckPromise bytes before before (Refused LentTooShort)
+  pub check_short : length before < 17 → CheckPromise bytes before before (Err LentTooShort)
   unfolding check_answer check_lent
-  check_short h = promised bytes before before (Refused LentTooShort) (simp (lt-ltb _ _ h)) (simp (lt-ltb _ _ h))
+  check_short h = promised bytes before before (Err LentTooShort) (simp (lt-ltb _ _ h)) (simp (lt-ltb _ _ h))
 
   module _ (long : 17 ≤ length before) where
     -- by the soundness of the record
-    ended : {x : Soundness} {answer : CheckAnswer} {after : List ℤ} → soundness bytes ≡ x → answer ≡ check_after x (check_in (sections bytes))
-        → after ≡ places_over x (check_in (sections bytes)) before → CheckPromise bytes before after answer
+    ended : {x : Result SoundJob Refusal} {answer : Result (Option Verdict) Refusal} {places : List ℤ} → soundness bytes ≡ x → answer ≡ check_after x (check_in (sections bytes))
+        → places ≡ places_over x (check_in (sections bytes)) before → CheckPromise bytes before places answer
     unfolding check_answer check_lent
     ended e a p = promised bytes before _ _ (simp (le-ltb _ _ long, e) a) (simp (le-ltb _ _ long, e) p)
 
-    pub check_back : (r : Refusal) → soundness bytes ≡ unsound r → CheckPromise bytes before before (Refused r)
+    pub check_back : (r : Refusal) → soundness bytes ≡ Err r → CheckPromise bytes before before (Err r)
     check_back r e = ended e refl refl
 
-    module _ {r : JobRecord} (h : ReadFrom bytes r) (job : Job) (e : r.answer ≡ Accepted job) where
-      pub check_front : length r.check ≡ 18 → CheckFront r.check r.patches
-      check_front n = record {
-        patches =
-            let k = length (check_in (sections bytes)) in
-            ⊎_elim (λ z. inl (h.patches ∙ eqb_yes z)) (λ z. inr (h.patches ∙ eqb_yes z)) (or_yes (eqb k 0) (eqb k 18) (accepted h job e).patches);
-        check_fits = n;
-      }
+    -- by what passed tests 2 to 10
+    module _ {tested : TestedJob} (p : PassedTests bytes tested) where
+      sound : soundness bytes ≡ Ok (made_of (display_of p) tested.indices p.wide)
+      sound = sound_as bytes tested.job p.accepted ∙ kept (display_of p) tested.indices p.wide
 
-      check_made : {indices : IndexRange} {answer : CheckAnswer} {after : List ℤ} → PassedTests bytes job indices → JobChecked job (take r.patches r.check) answer before after
-          → CheckPromise bytes before after answer
-      check_made {indices = indices} p c =
-          ended (sound_as bytes job p.accepted ∙ kept (measurable (accepted h job e)) indices p.wide) (rw h.check at c.answers) (rw h.check at c.places)
+      pub check_none : tested.found.check.count ≡ 0 → CheckPromise bytes before before (Ok None)
+      unfolding check_of places_of
+      check_none z =
+          let n : length (check_in (sections bytes)) ≡ 0 = rw (← check_is p.read, fields_length) z in
+          ended sound (rw n refl) (rw n refl)
 
-      -- by what tests 8, 9 and 10 find
-      module _ {x : Tested} (t : x ≡ tested_by (range_tests (added_of job + r.first.0) (added_of job + r.last.0))) where
-        pub check_failed : (f : Refusal) → x ≡ Failed f → CheckPromise bytes before before (Refused f)
-        check_failed f q = check_back f (sent_back h job e refl f (failed_fault _ f (sym t ∙ q)))
-
-        pub check_passed : {answer : CheckAnswer} {after : List ℤ} → x ≡ Passed → JobChecked job (take r.patches r.check) answer before after
-            → CheckPromise bytes before after answer
-        check_passed q c = passed_wide _ (sym t ∙ q) (λ indices w. check_made (passed_tests h job e refl indices w) c)
+      pub check_made : {readings : List ℕ} {limit : Limit} {found : Result Verdict Refusal} {answer : Result (Option Verdict) Refusal} {places : List ℤ} → (tested.found.check.count ≡ 0 → ⊥)
+          → readings ≡ values tested.found.check → limit ≡ limit_of tested.job.settings.class → Checked limit (shown tested.light.added.0 readings) found before places
+          → answer ≡ after found (λ verdict. Ok (Some verdict)) → CheckPromise bytes before places answer
+      unfolding check_of places_of
+      check_made {readings = readings} {limit = limit} {found = found} {places = places} some e l h a =
+          let n : length (check_in (sections bytes)) ≡ 18 = rw (← check_is p.read, fields_length) (all_read p some) in
+          let lit = subst (λ (x : Light). Checked limit (shown x.added.0 readings) found before places) p.light h in
+          let limited = subst (λ (x : Limit). Checked x (shown (added_of tested.job) readings) found before places) l lit in
+          let own = subst (λ (xs : List ℕ). Checked (limit_of tested.job.settings.class) (shown (added_of tested.job) xs) found before places) (e ∙ check_is p.read) limited in
+          ended sound (rw (n, a) (ap (λ (x : Result Verdict Refusal). after x (λ verdict. Ok (Some verdict))) own.answers)) (rw n own.places)

@@ -11,22 +11,23 @@ use lib.Seq.{get_or-append-add, get_or-drop}
 use lib.Signed.{◌≤ℤ◌}
 use mir.Facts.{clash}
 use borrow.Author.Tests.{le-leb, lt-leb, le-ltb, lt-ltb}
+use Rattle.std.specs.Prelude.{Some, None, Ok, Err}
 use Rattle.laws.specs.Search.{all}
 use Rattle.laws.proofs.Cases.{by, yes_is}
 use Rattle.laws.proofs.Search.{all_of, all_intro}
+use Rattle.record.specs.Sections.{after}
 use Rattle.record.specs.declared.Refusal.{Refusal}
 use Rattle.record.specs.declared.Job.{Job}
 use Rattle.contrast.specs.Deviation.{floor_of, excess, deviation_of, keeps_limit}
-use Rattle.contrast.specs.Check.{some_outside, check_range, check_too_narrow, at_pair, expected, limit_parts, deviations_of, verdict_of, contrast_of, deviations_over, Pair}
+use Rattle.contrast.specs.Check.{some_outside, check_range, check_too_narrow, at_pair, expected, limit_parts, deviations_of, verdict_of, contrast_of, deviations_over, Pair, limit_of}
 use Rattle.contrast.specs.declared.Verdict.{Verdict}
 use Rattle.contrast.specs.declared.Verdict.TheVariants as verdict
 use Rattle.contrast.proofs.Floor.{floor_le, floor_lt}
 use Rattle.contrast.proofs.Bounds.{expected_pos}
 use Rattle.contrast.proofs.Laws.{covers, pair_at_lem, deviations_length, deviations_at}
 use Rattle.engine.specs.Conditions.{made_by}
-use Rattle.engine.specs.Check.{limit_of, contrast_answer, check_of, check_answer, places_of, check_lent, CheckValues, not_measured, pass, fail, number, check_values, v, scaled_excess, Y, HasReadings, Inside, CheckOutcome, short, back, unmeasured, outside, narrow, passes, fails, CheckPromise}
+use Rattle.engine.specs.Check.{check_of, check_answer, places_of, check_lent, CheckValues, not_measured, pass, fail, number, check_values, v, scaled_excess, Y, HasReadings, Inside, CheckOutcome, short, back, unmeasured, outside, narrow, passes, fails, CheckPromise}
 use Rattle.engine.specs.CheckFacts.{JudgedCheck, CheckSettled}
-use Rattle.engine.specs.declared.CheckAnswer.TheVariants.{Judged, NotMeasured, Refused}
 use Rattle.engine.proofs.Conditions.{sent, went_on}
 use Rattle.engine.proofs.CheckTests.{outside_found, none_outside, is_narrow, wide_range}
 use Rattle.engine.proofs.Clashes.{pass_fail}
@@ -34,8 +35,8 @@ use Rattle.engine.proofs.Clashes.{pass_fail}
 -- ---- an outcome settles the answer and the places, so no two outcomes of one record and one slice differ
 
 module _ {bytes : List ℕ} {before : List ℤ} {job : Job} (c : HasReadings bytes before job) where
-  settled : {after : List ℤ} {x : CheckValues} → x ≡ check_values (contrast_answer (contrast_of (limit_of job.settings.class) (v bytes job)))
-      → after ≡ deviations_over (v bytes job) before → CheckSettled bytes before after x
+  settled : {places : List ℤ} {x : CheckValues} → x ≡ check_values (after (contrast_of (limit_of job.settings.class) (v bytes job)) (λ (w : Verdict). Ok (Some w)))
+      → places ≡ deviations_over (v bytes job) before → CheckSettled bytes before places x
   unfolding check_answer check_lent made_by check_of places_of
   settled ex ea = record {
     places = simp (le-ltb _ _ c.long, went_on c.goes_on) (rw c.readings ea);
@@ -144,14 +145,14 @@ told (passes w r k) = judged w r verdict.Pass refl (λ p. k) (λ p. refl)
 told (fails w r i h k) = judged w r verdict.Fail refl (λ p. absurd (pass_fail (sym p))) (λ p. clash k (p i h))
 
 module _ {bytes : List ℕ} {before after : List ℤ} where
-  pub judged_check : {found : Verdict} → CheckPromise bytes before after (Judged found) → JudgedCheck bytes before after found
+  pub judged_check : {found : Verdict} → CheckPromise bytes before after (Ok (Some found)) → JudgedCheck bytes before after found
   judged_check {found = verdict.Pass} h = told h.outcome
   judged_check {found = verdict.Fail} h = told h.outcome
 
   -- a refusal changes no place
-  pub check_refused_keeps : {r : Refusal} → CheckPromise bytes before after (Refused r) → after ≡ before
+  pub check_refused_keeps : {r : Refusal} → CheckPromise bytes before after (Err r) → after ≡ before
   check_refused_keeps h = told h.outcome
 
   -- nor does a check that was not measured
-  pub not_measured_keeps : CheckPromise bytes before after NotMeasured → after ≡ before
+  pub not_measured_keeps : CheckPromise bytes before after (Ok None) → after ≡ before
   not_measured_keeps h = told h.outcome

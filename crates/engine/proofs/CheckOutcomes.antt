@@ -11,6 +11,7 @@ use lib.ListN.{length, drop}
 use lib.Signed.{◌≤ℤ◌}
 use mir.Facts.{or_yes, eqb_yes}
 use borrow.Author.Tests.{leb-true, leb-false, le-ltb, lt-ltb}
+use Rattle.std.specs.Prelude.{Option, Result}
 use Rattle.laws.specs.Search.{all}
 use Rattle.laws.proofs.Cases.{by, yes_is, le_or_lt}
 use Rattle.laws.proofs.Search.{none_of, some_of, all_of, not_all}
@@ -19,18 +20,19 @@ use Rattle.record.specs.Sections.{sections, check_in}
 use Rattle.record.specs.declared.Job.{Job}
 use Rattle.record.proofs.Accepted.{accepted_job}
 use Rattle.contrast.specs.Deviation.{keeps_limit}
-use Rattle.contrast.specs.Check.{some_outside, check_range, check_too_narrow, at_pair, limit_parts, deviations_of, verdict_of, contrast_of, deviations_over}
-use Rattle.engine.specs.Sound.{Soundness}
+use Rattle.contrast.specs.Check.{some_outside, check_range, check_too_narrow, at_pair, limit_parts, deviations_of, verdict_of, contrast_of, deviations_over, limit_of}
+use Rattle.record.specs.declared.Refusal.{Refusal}
+use Rattle.contrast.specs.declared.Verdict.{Verdict}
+use Rattle.engine.specs.Sound.{SoundJob}
 use Rattle.engine.specs.Conditions.{GoesOn, made_by, Standing, stands, returned}
-use Rattle.engine.specs.Check.{limit_of, check_of, check_after, check_answer, places_of, places_over, check_lent, number, pass, fail, check_values, v, HasReadings, Inside, CheckOutcome, short, back, unmeasured, outside, narrow, passes, fails, CheckPromise}
-use Rattle.engine.specs.declared.CheckAnswer.{CheckAnswer}
+use Rattle.engine.specs.Check.{check_of, check_after, check_answer, places_of, places_over, check_lent, number, pass, fail, check_values, v, HasReadings, Inside, CheckOutcome, short, back, unmeasured, outside, narrow, passes, fails, CheckPromise}
 use Rattle.engine.proofs.CheckTests.{past_end, not_past, not_less}
 use Rattle.engine.proofs.Conditions.{standing}
 
 -- ---- the outcome of a sound job
 
 module _ (bytes : List ℕ) (before : List ℤ) (long : 17 ≤ length before) (job : Job) (g : GoesOn bytes job) where
-  abbrev Of : CheckAnswer → List ℤ → Type 0
+  abbrev Of : Result (Option Verdict) Refusal → List ℤ → Type 0
   Of answer after = CheckOutcome bytes before after (check_values answer)
 
   some_or_none : (length (check_in (sections bytes)) ≡ 0) ⊎ (length (check_in (sections bytes)) ≡ 18)
@@ -91,7 +93,7 @@ module _ (bytes : List ℕ) (before : List ℤ) (long : 17 ≤ length before) (j
 -- ---- the outcome of any record
 
 module _ (bytes : List ℕ) (before : List ℤ) where
-  long_outcome : (x : Soundness) → 17 ≤ length before → Standing bytes x
+  long_outcome : (x : Result SoundJob Refusal) → 17 ≤ length before → Standing bytes x
       → CheckOutcome bytes before (places_over x (check_in (sections bytes)) before) (check_values (check_after x (check_in (sections bytes))))
   unfolding made_by
   long_outcome _ long (returned b) = back long b
@@ -106,5 +108,5 @@ module _ (bytes : List ℕ) (before : List ℤ) where
       (le_or_lt 17 (length before))
 
   -- the two equations are the whole promise
-  pub promised : (after : List ℤ) (answer : CheckAnswer) → answer ≡ check_answer bytes (length before) → after ≡ check_lent bytes before → CheckPromise bytes before after answer
+  pub promised : (after : List ℤ) (answer : Result (Option Verdict) Refusal) → answer ≡ check_answer bytes (length before) → after ≡ check_lent bytes before → CheckPromise bytes before after answer
   promised after answer e f = record { answers = e; deviations = f; outcome = rw (e, f) some_check }

@@ -4,19 +4,19 @@ use mathlib.Core.Path.{◌≡◌, refl}
 use mathlib.Core.List.{List}
 use Prim.Native.Nat.{ℕ}
 use borrow.Author.Tests.{ltb-true, ltb-false, le-ltb, lt-ltb}
+use Rattle.std.specs.Prelude.{Result, Ok, Err}
 use Rattle.laws.proofs.Cases.{by}
 use Rattle.record.specs.Tests.{answer_of}
+use Rattle.record.specs.declared.Refusal.{Refusal}
 use Rattle.record.specs.declared.Refusal.TheVariants.{BlackBelowTable, WhiteAboveTable, RangeTooNarrow}
 use Rattle.record.specs.declared.Job.{Job}
-use Rattle.record.specs.declared.Answer.{Answer}
-use Rattle.record.specs.declared.Answer.TheVariants as read
 use Rattle.gsdf.specs.Ends.{below_table, above_table}
 use Rattle.target.specs.Target.{range_of, too_narrow}
-use Rattle.engine.specs.Sound.{sound, range_tests, measured, soundness, top_of}
+use Rattle.engine.specs.Sound.{range_tests, measured, soundness, top_of}
 use Rattle.engine.specs.Conditions.{F, SendsBack, unread, black, white, narrow, GoesOn, made_by, Standing, stands, returned, Unsound}
 
 module _ (bytes : List ℕ) where
-  job_standing : (job : Job) → answer_of bytes ≡ read.Accepted job → Standing bytes (soundness bytes)
+  job_standing : (job : Job) → answer_of bytes ≡ Ok job → Standing bytes (soundness bytes)
   unfolding soundness measured range_tests below_table above_table range_of made_by
   job_standing job a =
       by (below_table (F bytes job 0))
@@ -31,9 +31,9 @@ module _ (bytes : List ℕ) where
   unfolding soundness
   standing = go (answer_of bytes) refl
     where
-      go : (x : Answer) → answer_of bytes ≡ x → Standing bytes (soundness bytes)
-      go (read.Refused r) e = rw e (returned (unread e))
-      go (read.Accepted job) e = job_standing job e
+      go : (x : Result Job Refusal) → answer_of bytes ≡ x → Standing bytes (soundness bytes)
+      go (Err r) e = rw e (returned (unread e))
+      go (Ok job) e = job_standing job e
 
 -- the conditions settle the soundness
 pub sent : {bytes : List ℕ} {n : ℕ} → SendsBack bytes n → Unsound bytes n
@@ -43,6 +43,6 @@ sent (black a b) = record { refusal = BlackBelowTable; is = simp (a, lt-ltb _ _ 
 sent (white a b w) = record { refusal = WhiteAboveTable; is = simp (a, le-ltb _ _ b, lt-ltb _ _ w); numbered = refl }
 sent (narrow a b w n) = record { refusal = RangeTooNarrow; is = simp (a, le-ltb _ _ b, le-ltb _ _ w, lt-ltb _ _ n); numbered = refl }
 
-pub went_on : {bytes : List ℕ} {job : Job} → GoesOn bytes job → soundness bytes ≡ sound (made_by bytes job)
+pub went_on : {bytes : List ℕ} {job : Job} → GoesOn bytes job → soundness bytes ≡ Ok (made_by bytes job)
 unfolding soundness measured range_tests below_table above_table range_of made_by
 went_on g = simp (g.accepted, le-ltb _ _ g.black, le-ltb _ _ g.white, le-ltb _ _ g.wide)

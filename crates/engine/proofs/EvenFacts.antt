@@ -4,6 +4,7 @@ use mathlib.Core.Path.{◌≡◌, refl, ap, sym, ◌∙◌}
 use mathlib.Core.List.{List, ◌++◌}
 use Prim.Native.Nat.{ℕ}
 use lib.ListN.{drop}
+use Rattle.std.specs.Prelude.{Err}
 use Rattle.laws.proofs.Cases.{by, no_is}
 use Rattle.record.specs.declared.Refusal.{Refusal}
 use Rattle.record.specs.declared.Job.{Job}
@@ -14,7 +15,6 @@ use Rattle.even.proofs.Even.{even_is, even_unique}
 use Rattle.engine.specs.Conditions.{GoesOn}
 use Rattle.engine.specs.Even.{outcome_answer, even_answer, even_lent, WithinError, worst_step, IsEvenTable, EvenValues, worst, number, even_values, EvenOutcome, short, back, none, made, EvenPromise}
 use Rattle.engine.specs.EvenFacts.{EvenSettled}
-use Rattle.engine.specs.declared.EvenAnswer.TheVariants.{Refused}
 use Rattle.engine.proofs.Conditions.{sent}
 use Rattle.engine.proofs.EvenTerms.{workable, known, Spells, spells, even_in_lists}
 use Rattle.engine.proofs.EvenOutcomes.{enough_lent, short_lent, none_within, no_level_lem, worst_least, answer_is, entries_are}
@@ -77,6 +77,6 @@ outcome_keeps (none enough g h) = refl
 outcome_keeps (made enough g v) = tt
 
 -- a refusal changes no entry and no word
-pub even_refused_keeps : {bytes before after words words_after : List ℕ} {r : Refusal} → EvenPromise bytes before after words words_after (Refused r)
+pub even_refused_keeps : {bytes before after words words_after : List ℕ} {r : Refusal} → EvenPromise bytes before after words words_after (Err r)
     → (after ≡ before) × (words_after ≡ words)
 even_refused_keeps h = (outcome_keeps h.outcome, h.words_refused refl)

@@ -10,6 +10,7 @@ use lib.ListN.{length, get_or, take}
 use lib.Seq.{take-append_seam}
 use mir.Facts.{or_yes, or_no, ltb_yes, yes_ltb}
 use borrow.Author.Tests.{ltb-false, le-ltb}
+use Rattle.std.specs.Prelude.{Result, Ok, Err}
 use Rattle.laws.proofs.Cases.{by, yes_is, no_is, is_yes, is_no, yes_or}
 use Rattle.record.specs.declared.Refusal.{Refusal}
 use Rattle.record.specs.declared.Refusal.TheVariants.{NoTable}
@@ -18,14 +19,12 @@ use Rattle.even.specs.Even as lists
 use Rattle.even.specs.Table.{has_no_table, least_worst, even_table}
 use Rattle.even.specs.Filled.{outcome_of, even_over, Workable}
 use Rattle.even.proofs.Even.{no_list, even_is, even_worst}
-use Rattle.engine.specs.Sound.{Soundness}
+use Rattle.engine.specs.Sound.{SoundJob}
 use Rattle.engine.specs.Conditions.{GoesOn, made_by, Standing, stands, returned}
 use Rattle.engine.specs.Even.{given_by, outcome_answer, even_of, too_little, even_answer, even_entries, even_lent, WithinError, worst_step, IsEvenTable, even_values, Enough, EvenOutcome, short, back, none, made, MadeFor, EvenPromise}
 use Rattle.engine.specs.declared.EvenFigures.{EvenFigures}
-use Rattle.engine.specs.declared.EvenAnswer.{EvenAnswer}
-use Rattle.engine.specs.declared.EvenAnswer.TheVariants.{Made, Refused}
 use Rattle.engine.proofs.Conditions.{standing, went_on}
-use Rattle.engine.proofs.Clashes.{table_refused, same_figures}
+use Rattle.engine.proofs.Clashes.{ok_err, same_ok}
 use Rattle.engine.proofs.EvenTerms.{workable, known, Spells, spells, in_terms, in_lists, worst_same, even_in_terms}
 
 -- ---- curve, targets and allowed error of a job
@@ -56,16 +55,16 @@ module _ {bytes : List ℕ} {job : Job} {x : lists.Given} (ok : Workable x) (s :
         (λ e. simp e (rw (s.values, worst_least e) (made enough g (is_even e))))
 
   -- the answer is "no table" exactly when the test passes
-  none_told : outcome_answer (outcome_of x) ≡ Refused NoTable → has_no_table x ≡ true
+  none_told : outcome_answer (outcome_of x) ≡ Err NoTable → has_no_table x ≡ true
   unfolding outcome_of
-  none_told e = by (has_no_table x) (λ f. f) (λ f. absurd (table_refused (simp f at e)))
+  none_told e = by (has_no_table x) (λ f. f) (λ f. absurd (ok_err (simp f at e)))
 
-  none_answers : has_no_table x ≡ true → outcome_answer (outcome_of x) ≡ Refused NoTable
+  none_answers : has_no_table x ≡ true → outcome_answer (outcome_of x) ≡ Err NoTable
   unfolding outcome_of
   none_answers e = simp e
 
   -- else it is a table
-  table_answers : has_no_table x ≡ false → outcome_answer (outcome_of x) ≡ Made (record { worst = least_worst x })
+  table_answers : has_no_table x ≡ false → outcome_answer (outcome_of x) ≡ Ok (record { worst = least_worst x })
   unfolding outcome_of
   table_answers e = simp e
 
@@ -73,12 +72,12 @@ module _ {bytes : List ℕ} {job : Job} {x : lists.Given} (ok : Workable x) (s :
     pub some : has_no_table x ≡ false
     pub figure : figures.worst ≡ least_worst x
 
-  answered : {figures : EvenFigures} → Made figures ≡ outcome_answer (outcome_of x) → Answered figures
+  answered : {figures : EvenFigures} → Ok figures ≡ outcome_answer (outcome_of x) → Answered figures
   unfolding outcome_of
   answered e =
       by (has_no_table x)
-      (λ f. absurd (table_refused (simp f at e)))
-      (λ f. record { some = f; figure = ap (λ (y : EvenFigures). y.worst) (same_figures (simp f at e)) })
+      (λ f. absurd (ok_err (simp f at e)))
+      (λ f. record { some = f; figure = ap (λ (y : EvenFigures). y.worst) (same_ok (simp f at e)) })
 
   front : (before : List ℕ) → has_no_table x ≡ false → take 256 (even_over x before) ≡ even_table x
   unfolding even_over
@@ -106,7 +105,7 @@ enough_lent n = simp (le-ltb _ _ n.entries, le-ltb _ _ n.words)
 -- ---- any record
 
 module _ (bytes before words : List ℕ) where
-  long_outcome : (y : Soundness) → Enough before words → Standing bytes y → EvenOutcome bytes before words (even_entries y before) (even_values (even_of y))
+  long_outcome : (y : Result SoundJob Refusal) → Enough before words → Standing bytes y → EvenOutcome bytes before words (even_entries y before) (even_values (even_of y))
   long_outcome _ enough (returned {r = r} b) = back enough b
   long_outcome _ enough (stands g) = job_outcome (workable (known g)) (spells g) enough g
 
@@ -127,13 +126,13 @@ module _ (bytes before words : List ℕ) where
     entries_are = simp (enough_lent enough, went_on g)
 
   -- a table is made only where enough is lent
-  made_enough : {figures : EvenFigures} → Made figures ≡ even_answer bytes (length before) (length words) → Enough before words
+  made_enough : {figures : EvenFigures} → Ok figures ≡ even_answer bytes (length before) (length words) → Enough before words
   unfolding even_answer
-  made_enough e = by (too_little (length before) (length words)) (λ f. absurd (table_refused (simp f at e))) lent_enough
+  made_enough e = by (too_little (length before) (length words)) (λ f. absurd (ok_err (simp f at e))) lent_enough
 
   -- ---- the promise by its equations
 
-  module _ {after : List ℕ} {answer : EvenAnswer} (a : answer ≡ even_answer bytes (length before) (length words)) (e : after ≡ even_lent bytes before (length words)) where
+  module _ {after : List ℕ} {answer : Result EvenFigures Refusal} (a : answer ≡ even_answer bytes (length before) (length words)) (e : after ≡ even_lent bytes before (length words)) where
     -- what demand 3 asks of the entries
     record Delivered (job : Job) (figures : EvenFigures) : Type 0 where
       pub even : IsEvenTable bytes job (take 256 after)
@@ -151,7 +150,7 @@ module _ (bytes before words : List ℕ) where
           figure = told.figure ∙ worst_least ok s told.some ∙ ap (worst_step bytes job) (sym entries);
         }
 
-    exactly : {job : Job} → Enough before words → GoesOn bytes job → (answer ≡ Refused NoTable) ↔ ((levels : List ℕ) → WithinError bytes job levels → ⊥)
+    exactly : {job : Job} → Enough before words → GoesOn bytes job → (answer ≡ Err NoTable) ↔ ((levels : List ℕ) → WithinError bytes job levels → ⊥)
     exactly enough g =
         let ok = workable (known g) in
         let s = spells g in (
@@ -159,7 +158,7 @@ module _ (bytes before words : List ℕ) where
           λ h. a ∙ answer_is enough g ∙ none_answers ok s (no_level_lem ok s h),
         )
 
-    otherwise_made : {job : Job} → Enough before words → GoesOn bytes job → (answer ≡ Refused NoTable → ⊥) → MadeFor bytes job answer
+    otherwise_made : {job : Job} → Enough before words → GoesOn bytes job → (answer ≡ Err NoTable → ⊥) → MadeFor bytes job answer
     otherwise_made {job} enough g h =
         by (has_no_table (given_by (made_by bytes job)))
         (λ n. absurd (h (a ∙ answer_is enough g ∙ none_answers (workable (known g)) (spells g) n)))
@@ -171,7 +170,7 @@ module _ (bytes before words : List ℕ) where
 
     -- with what is kept of the words
     pub promised : {words_after : List ℕ} → length words_after ≡ length words → ((i : ℕ) → 8192 ≤ i → get_or words_after i 0 ≡ get_or words i 0)
-        → ((r : Refusal) → answer ≡ Refused r → words_after ≡ words) → EvenPromise bytes before after words words_after answer
+        → ((r : Refusal) → answer ≡ Err r → words_after ≡ words) → EvenPromise bytes before after words words_after answer
     promised {words_after} n later all = record {
       answers = a;
       table = e;

@@ -13,7 +13,6 @@ pub mod EvenTerms
 pub mod EvenOutcomes
 pub mod Even
 pub mod EvenFacts
-pub mod Checking
 pub mod CheckTests
 pub mod CheckOutcomes
 pub mod Check

@@ -8,9 +8,9 @@ use native.Mathlib.Nat.{eq-or-lt_of_le}
 use native.Mathlib.Omega.{arith}
 use lib.ListN.{length, get_or}
 use borrow.Author.Tests.{ltb-false}
+use Rattle.std.specs.Prelude.{Ok, Err}
 use Rattle.laws.proofs.Cases.{by}
 use Rattle.units.specs.declared.Luminance.{Luminance}
-use Rattle.gsdf.specs.Table.{table_b1}
 use Rattle.record.specs.Tests.{max_ddl}
 use Rattle.record.specs.declared.Refusal.{Refusal}
 use Rattle.record.specs.declared.Job.{Job}
@@ -23,11 +23,10 @@ use Rattle.curve.proofs.Laws as curve
 use Rattle.target.specs.Target.{range_of, too_narrow, targets_of, Aims}
 use Rattle.target.specs.declared.IndexRange.{IndexRange}
 use Rattle.target.proofs.Ranges.{range_low, range_high, range_between}
-use Rattle.engine.specs.Sound.{SoundJob, sound, unsound, room_of, added_of, top_of, range_tests, measured}
+use Rattle.engine.specs.Sound.{SoundJob, room_of, added_of, top_of, range_tests, measured}
 use Rattle.engine.specs.Drawing.{light_of, sweep_tests}
 use Rattle.engine.specs.declared.Light.{Light}
-use Rattle.engine.specs.declared.Ranged.TheVariants.{Wide, Fault}
-use Rattle.engine.proofs.Clashes.{wide_fault}
+use Rattle.engine.proofs.Clashes.{ok_err}
 
 -- what holds at each of the three depths
 by_depth : (P : ℕ → Type 0) (b : ℕ) → 8 ≤ b → b ≤ 10 → P 8 → P 9 → P 10 → P b
@@ -50,17 +49,17 @@ pub record Passed (black white : ℕ) (indices : IndexRange) : Type 0 where
   pub is : indices ≡ range_of black white
   pub wide : 10000 ≤ indices.range.0
 
-pub passed : (black white : ℕ) (indices : IndexRange) → range_tests black white ≡ Wide indices → Passed black white indices
+pub passed : (black white : ℕ) (indices : IndexRange) → range_tests black white ≡ Ok indices → Passed black white indices
 unfolding range_tests
 passed black white indices e =
     by (below_table black)
-    (λ a. absurd (wide_fault (sym (simp a at e))))
+    (λ a. absurd (ok_err (sym (simp a at e))))
     (λ a. by (above_table white)
-    (λ b. absurd (wide_fault (sym (simp (a, b) at e))))
+    (λ b. absurd (ok_err (sym (simp (a, b) at e))))
     (λ b. by (too_narrow (range_of black white).range.0)
-    (λ n. absurd (wide_fault (sym (simp (a, b, n) at e))))
+    (λ n. absurd (ok_err (sym (simp (a, b, n) at e))))
     (λ n.
-    let f : Wide (range_of black white) ≡ Wide indices = simp (a, b, n) at e in
+    let f : Ok (range_of black white) ≡ Ok indices = simp (a, b, n) at e in
     let is : indices ≡ range_of black white = cc in
     record {
       low = not_below black a;
@@ -107,12 +106,12 @@ module _ {job : Job} {ddls luminances : List ℕ} (m : Measurable job ddls lumin
   white_is = curve.curve_last m.sweep (added_of job) ∙ rw m.sweep.pairs
 
   -- one that a test sends back
-  pub faulted : (r : Refusal) → sweep_tests (added_of job) luminances ≡ Fault r → measured job ddls luminances ≡ unsound r
+  pub faulted : (r : Refusal) → sweep_tests (added_of job) luminances ≡ Err r → measured job ddls luminances ≡ Err r
   unfolding measured
   faulted r e = simp (black_is, white_is, e)
 
   -- and one that is not
-  module _ (indices : IndexRange) (e : sweep_tests (added_of job) luminances ≡ Wide indices) where
+  module _ (indices : IndexRange) (e : sweep_tests (added_of job) luminances ≡ Ok indices) where
     pub through : Passed (added_of job + get_or luminances 0 0) (added_of job + get_or luminances (length luminances - 1) 0) indices
     through = passed _ _ _ e
 
@@ -125,13 +124,12 @@ module _ {job : Job} {ddls luminances : List ℕ} (m : Measurable job ddls lumin
       mark = room_mark (room_of job) (get_or luminances 0 0);
     }
 
-    pub kept : measured job ddls luminances ≡ sound made_of
+    pub kept : measured job ddls luminances ≡ Ok made_of
     unfolding measured
     kept = simp (black_is, white_is, e)
 
-    pub aims : (table : List ℕ) → table ≡ table_b1 → Aims table indices.low.0 indices.range.0 255
-    aims table lent = record {
-      lent = lent;
+    pub aims : Aims indices.low.0 indices.range.0 255
+    aims = record {
       first = rw through.is (range_low _ _);
       last = rw through.is (omega (arith, range_between (added_of job + get_or luminances 0 0) (added_of job + get_or luminances (length luminances - 1) 0) through.low order, range_high (added_of job + get_or luminances 0 0) (added_of job + get_or luminances (length luminances - 1) 0)));
       some = omega arith;

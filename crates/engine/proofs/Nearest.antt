@@ -8,20 +8,19 @@ use native.Mathlib.Omega.{arith}
 use mathlib.Core.Logic.{⊎_elim}
 use lib.ListN.{length, take, get_or}
 use borrow.Author.Tests.{le-ltb, lt-ltb}
+use Rattle.std.specs.Prelude.{Ok, Err}
 use Rattle.laws.specs.Rises.{NeverFalls}
 use Rattle.record.specs.declared.Refusal.{Refusal}
 use Rattle.record.specs.declared.Refusal.TheVariants.{LentTooShort}
 use Rattle.record.specs.Sections.{sections, luminances_in}
-use Rattle.record.specs.declared.Job.{Job}
 use Rattle.curve.specs.Room.{room_mark}
 use Rattle.curve.specs.declared.RoomMark.{RoomMark}
 use Rattle.units.specs.declared.Luminance.{Luminance}
 use Rattle.nearest.specs.Nearest.{Fillable, Filled}
-use Rattle.engine.specs.Sound.{SoundJob, unsound, soundness, IsSound, room_of}
+use Rattle.engine.specs.Sound.{SoundJob, soundness, IsSound, room_of}
 use Rattle.engine.specs.Nearest.{nearest_answer, nearest_lent, NearestPromise}
-use Rattle.target.specs.declared.IndexRange.{IndexRange}
 use Rattle.engine.specs.Drawing.{Drawn}
-use Rattle.engine.specs.declared.NearestAnswer.TheVariants.{Made, Refused}
+use Rattle.engine.specs.declared.TestedJob.{TestedJob}
 use Rattle.engine.proofs.NearestOutcomes.{promised}
 use Rattle.engine.proofs.Soundness.{sound_job}
 
@@ -32,16 +31,16 @@ targets_keep s = record {
 }
 
 module _ (bytes before : List ℕ) where
-  pub too_short : length before < 256 → NearestPromise bytes before before (Refused LentTooShort)
+  pub too_short : length before < 256 → NearestPromise bytes before before (Err LentTooShort)
   unfolding nearest_answer nearest_lent
-  too_short h = promised bytes before before (Refused LentTooShort) (simp (lt-ltb _ _ h)) (simp (lt-ltb _ _ h))
+  too_short h = promised bytes before before (Err LentTooShort) (simp (lt-ltb _ _ h)) (simp (lt-ltb _ _ h))
 
   module _ (long : 256 ≤ length before) where
-    pub back : (r : Refusal) → soundness bytes ≡ unsound r → NearestPromise bytes before before (Refused r)
+    pub back : (r : Refusal) → soundness bytes ≡ Err r → NearestPromise bytes before before (Err r)
     unfolding nearest_answer nearest_lent
-    back r e = promised bytes before before (Refused r) (simp (le-ltb _ _ long, e)) (simp (le-ltb _ _ long, e))
+    back r e = promised bytes before before (Err r) (simp (le-ltb _ _ long, e)) (simp (le-ltb _ _ long, e))
 
-    module _ {job : Job} {indices : IndexRange} {levels : ℕ} {curve targets : List ℕ} (d : Drawn bytes job indices levels curve targets) where
+    module _ {tested : TestedJob} {levels : ℕ} {curve targets : List ℕ} (d : Drawn bytes tested levels curve targets) where
       pub fillable : Fillable (take levels curve) targets before
       fillable =
           let known = sound_job bytes _ d.is in
@@ -55,8 +54,8 @@ module _ (bytes before : List ℕ) where
             fits = omega (arith, known.values);
           }
 
-      pub filled : {mark : RoomMark} (after : List ℕ) (error : Luminance) → mark ≡ room_mark (room_of job) (get_or (luminances_in (sections bytes)) 0 0)
+      pub filled : {mark : RoomMark} (after : List ℕ) (error : Luminance) → mark ≡ room_mark (room_of tested.job) (get_or (luminances_in (sections bytes)) 0 0)
           → Filled (take levels curve) targets before after error.0
-          → NearestPromise bytes before after (Made (record { indices = indices; mark = mark; error = error }))
+          → NearestPromise bytes before after (Ok (record { indices = tested.indices; mark = mark; error = error }))
       unfolding nearest_answer nearest_lent
       filled after error m h = promised bytes before after _ (simp (le-ltb _ _ long, d.is) (rw (m, sym h.largest))) (simp (le-ltb _ _ long, d.is) h.table)

@@ -8,18 +8,18 @@ use native.Mathlib.Omega.{arith}
 use lib.ListN.{length, get_or, drop, length-append, length-drop, get_or-append}
 use lib.Seq.{get_or-append-add, get_or-drop}
 use borrow.Author.Tests.{le-ltb, lt-ltb}
+use Rattle.std.specs.Prelude.{Result, Ok, Err}
 use Rattle.laws.proofs.Cases.{le_or_lt}
 use Rattle.laws.proofs.Numbers.{max_at, max_le}
 use Rattle.record.specs.declared.Refusal.{Refusal}
 use Rattle.nearest.specs.Nearest.{error_at, nearest_level, largest_error}
 use Rattle.nearest.proofs.Laws.{nearest_inside, nearest_least, nearest_first, table_length, table_at, table_never_falls}
-use Rattle.engine.specs.Sound.{SoundJob, Soundness, sound, unsound, soundness, IsSound}
+use Rattle.engine.specs.Sound.{SoundJob, soundness, IsSound}
 use Rattle.engine.specs.Nearest.{nearest_of, nearest_figures, nearest_entries, nearest_answer, entries_over, nearest_lent, NearestPromise}
 use Rattle.engine.specs.NearestFacts.{MadeTable}
 use Rattle.engine.specs.declared.NearestFigures.{NearestFigures}
-use Rattle.engine.specs.declared.NearestAnswer.TheVariants.{Made, Refused}
 use Rattle.engine.proofs.Soundness.{sound_job}
-use Rattle.engine.proofs.Clashes.{made_refused}
+use Rattle.engine.proofs.Clashes.{ok_err}
 use Rattle.engine.proofs.Nearest.{targets_keep}
 
 -- the entries after a table was made
@@ -48,7 +48,7 @@ module _ (before : List ℕ) {after : List ℕ} {job : SoundJob} (known : IsSoun
   error_is : (p : ℕ) → p < 256 → error_at job.curve (get_or job.targets p 0) (get_or (nearest_entries job) p 0) ≡ error_at job.curve (get_or job.targets p 0) (get_or after p 0)
   error_is p h = ap (error_at job.curve (get_or job.targets p 0)) (sym (in_front p h))
 
-  made_of : {bytes : List ℕ} {figures : NearestFigures} → 256 ≤ length before → soundness bytes ≡ sound job → figures ≡ nearest_figures job → MadeTable bytes before after figures
+  made_of : {bytes : List ℕ} {figures : NearestFigures} → 256 ≤ length before → soundness bytes ≡ Ok job → figures ≡ nearest_figures job → MadeTable bytes before after figures
   unfolding largest_error
   made_of {figures = figures} long e f =
       let n : length job.targets ≡ 256 = known.values in
@@ -77,22 +77,22 @@ module _ (before : List ℕ) {after : List ℕ} {job : SoundJob} (known : IsSoun
 
 module _ {bytes before after : List ℕ} where
   -- a table that was made
-  pub made_table : {figures : NearestFigures} → NearestPromise bytes before after (Made figures) → MadeTable bytes before after figures
+  pub made_table : {figures : NearestFigures} → NearestPromise bytes before after (Ok figures) → MadeTable bytes before after figures
   unfolding nearest_answer nearest_lent
   made_table {figures = figures} h =
       ⊎_elim
       (λ (long : 256 ≤ length before).
-      let a : Made figures ≡ nearest_of (soundness bytes) = simp (le-ltb _ _ long) at h.answers in
+      let a : Ok figures ≡ nearest_of (soundness bytes) = simp (le-ltb _ _ long) at h.answers in
       go long (soundness bytes) refl a (simp (le-ltb _ _ long) at h.table))
-      (λ (short : length before < 256). absurd (made_refused (simp (lt-ltb _ _ short) at h.answers)))
+      (λ (short : length before < 256). absurd (ok_err (simp (lt-ltb _ _ short) at h.answers)))
       (le_or_lt 256 (length before))
     where
-      go : 256 ≤ length before → (x : Soundness) → soundness bytes ≡ x → Made figures ≡ nearest_of x → after ≡ entries_over x before → MadeTable bytes before after figures
-      go long (unsound r) e a t = absurd (made_refused a)
-      go long (sound job) e a t = let f : figures ≡ nearest_figures job = cc in made_of before (sound_job bytes job e) t long e f
+      go : 256 ≤ length before → (x : Result SoundJob Refusal) → soundness bytes ≡ x → Ok figures ≡ nearest_of x → after ≡ entries_over x before → MadeTable bytes before after figures
+      go long (Err r) e a t = absurd (ok_err a)
+      go long (Ok job) e a t = let f : figures ≡ nearest_figures job = cc in made_of before (sound_job bytes job e) t long e f
 
   -- a refusal changes no entry
-  pub refused_keeps : {r : Refusal} → NearestPromise bytes before after (Refused r) → after ≡ before
+  pub refused_keeps : {r : Refusal} → NearestPromise bytes before after (Err r) → after ≡ before
   unfolding nearest_answer nearest_lent
   refused_keeps {r = r} h =
       ⊎_elim
@@ -101,6 +101,6 @@ module _ {bytes before after : List ℕ} where
       (λ (short : length before < 256). simp (lt-ltb _ _ short) at h.table)
       (le_or_lt 256 (length before))
     where
-      go : (x : Soundness) → Refused r ≡ nearest_of x → after ≡ entries_over x before → after ≡ before
-      go (unsound q) a t = t
-      go (sound job) a t = absurd (made_refused (sym a))
+      go : (x : Result SoundJob Refusal) → Err r ≡ nearest_of x → after ≡ entries_over x before → after ≡ before
+      go (Err q) a t = t
+      go (Ok job) a t = absurd (ok_err (sym a))

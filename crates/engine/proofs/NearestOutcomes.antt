@@ -6,18 +6,20 @@ use mathlib.Core.Logic.{⊎_elim}
 use Prim.Native.Nat.{ℕ, ◌≤◌, ◌<◌}
 use lib.ListN.{length}
 use borrow.Author.Tests.{le-ltb, lt-ltb}
+use Rattle.std.specs.Prelude.{Result}
 use Rattle.laws.proofs.Cases.{le_or_lt}
 use Rattle.target.specs.Target.{range_of}
 use Rattle.target.proofs.Laws.{targets_length}
-use Rattle.engine.specs.Sound.{Soundness}
+use Rattle.record.specs.declared.Refusal.{Refusal}
+use Rattle.engine.specs.declared.NearestFigures.{NearestFigures}
+use Rattle.engine.specs.Sound.{SoundJob}
 use Rattle.engine.specs.Conditions.{jlo, N, made_by, Standing, stands, returned}
 use Rattle.engine.specs.Nearest.{nearest_of, nearest_answer, entries_over, nearest_lent, NearestValues, number, nearest_values, NearestOutcome, short, back, made, NearestPromise}
 use Rattle.engine.specs.NearestFacts.{Settled}
-use Rattle.engine.specs.declared.NearestAnswer.{NearestAnswer}
 use Rattle.engine.proofs.Conditions.{standing, sent, went_on}
 
 module _ (bytes before : List ℕ) where
-  long_outcome : (x : Soundness) → 256 ≤ length before → Standing bytes x → NearestOutcome bytes before (entries_over x before) (nearest_values (nearest_of x))
+  long_outcome : (x : Result SoundJob Refusal) → 256 ≤ length before → Standing bytes x → NearestOutcome bytes before (entries_over x before) (nearest_values (nearest_of x))
   unfolding made_by range_of
   long_outcome _ long (returned {r = r} b) = back long b
   long_outcome _ long (stands {job = job} g) = rw (targets_length (jlo bytes job) (N bytes job) 255) (made long g)
@@ -31,7 +33,7 @@ module _ (bytes before : List ℕ) where
       (le_or_lt 256 (length before))
 
   -- the two equations are the whole promise
-  pub promised : (after : List ℕ) (answer : NearestAnswer) → answer ≡ nearest_answer bytes (length before) → after ≡ nearest_lent bytes before → NearestPromise bytes before after answer
+  pub promised : (after : List ℕ) (answer : Result NearestFigures Refusal) → answer ≡ nearest_answer bytes (length before) → after ≡ nearest_lent bytes before → NearestPromise bytes before after answer
   promised after answer e f = record { answers = e; table = f; outcome = rw (e, f) some_outcome }
 
 -- an outcome settles the answer and the entries, so no two outcomes of one record and one slice differ

@@ -1,32 +1,33 @@
 -- From an accepted record to its measured display.
 -- Assumes nothing.
-use mathlib.Core.Path.{◌≡◌, sym, ◌∙◌}
+use mathlib.Core.Path.{◌≡◌, sym, ap, ◌∙◌}
 use mathlib.Core.List.{List}
-use Prim.Native.Nat.{ℕ, ◌+◌, ◌≤◌}
+use Prim.Native.Nat.{ℕ, ◌+◌, ◌-◌, ◌≤◌}
 use native.Mathlib.Numerals.{add-one}
 use native.Mathlib.Omega.{arith}
 use lib.ListN.{length, get_or}
 use lib.Dec.{leb}
 use mir.Facts.{and_yes, leb_yes}
+use Rattle.std.specs.Prelude.{Result, Ok, Err}
 use Rattle.laws.proofs.Rises.{keeps_by_steps}
-use Rattle.record.specs.Sections.{sections, ddls_in, luminances_in}
-use Rattle.record.specs.Reader.{ReadFrom}
+use Rattle.record.specs.Sections.{sections, ddls_in, luminances_in, check_in}
+use Rattle.record.specs.Reader.{ReadFrom, values, ddls_of, luminances_of}
 use Rattle.record.specs.Accepted.{AcceptedJob}
 use Rattle.record.specs.declared.Refusal.{Refusal}
 use Rattle.record.specs.declared.Job.{Job}
-use Rattle.record.specs.declared.JobRecord.{JobRecord}
-use Rattle.record.specs.declared.Answer.TheVariants.{Accepted, Refused}
+use Rattle.record.specs.declared.items.JobRecord.{JobRecord}
 use Rattle.record.proofs.Accepted.{accepted_job}
+use Rattle.record.proofs.Fields.{fields_length}
+use Rattle.units.specs.declared.Luminance.{Luminance}
 use Rattle.record.specs.Tests.{answer_of}
 use Rattle.curve.specs.Room.{room_mark}
 use Rattle.curve.specs.Curve.{Sweep}
 use Rattle.curve.specs.declared.RoomMark.{RoomMark}
 use Rattle.target.specs.declared.IndexRange.{IndexRange}
-use Rattle.engine.specs.Sound.{unsound, room_of, added_of, top_of, range_tests, measured, soundness}
+use Rattle.engine.specs.Sound.{room_of, added_of, top_of, range_tests, measured, soundness}
 use Rattle.engine.specs.Drawing.{light_of, sweep_tests, PassedTests}
 use Rattle.engine.specs.declared.Light.{Light}
-use Rattle.engine.specs.declared.Ranged.{Ranged}
-use Rattle.engine.specs.declared.Ranged.TheVariants.{Wide, Fault}
+use Rattle.engine.specs.declared.TestedJob.{TestedJob}
 use Rattle.engine.proofs.Measuring.{Measurable, climbs, faulted}
 
 -- ---- a record
@@ -46,37 +47,63 @@ module _ {s : List ℕ} {job : Job} (a : AcceptedJob s job) where
   measurable = record { depth_low = a.depth_low; depth_high = a.depth_high; sweep = sweep_of }
 
 -- an accepted record is its job and its sweep, measured
-pub sound_as : (s : List ℕ) (job : Job) → answer_of s ≡ Accepted job → soundness s ≡ measured job (ddls_in (sections s)) (luminances_in (sections s))
+pub sound_as : (s : List ℕ) (job : Job) → answer_of s ≡ Ok job → soundness s ≡ measured job (ddls_in (sections s)) (luminances_in (sections s))
 unfolding soundness
 sound_as s job e = rw e
 
-module _ {s : List ℕ} {r : JobRecord} (h : ReadFrom s r) where
-  pub unread : (f : Refusal) → r.answer ≡ Refused f → soundness s ≡ unsound f
-  unfolding soundness
-  unread f e = rw (sym h.answer, e)
+-- a record that cannot be read
+pub unread : {s : List ℕ} {f : Refusal} → ReadFrom s (Err f) → soundness s ≡ Err f
+unfolding soundness
+unread h = rw (sym h.answer)
 
-  module _ (job : Job) (e : r.answer ≡ Accepted job) where
-    is_accepted : answer_of s ≡ Accepted job
+module _ {s : List ℕ} {r : JobRecord} (h : ReadFrom s (Ok r)) where
+  pub unfit : (f : Refusal) → r.job ≡ Err f → soundness s ≡ Err f
+  unfolding soundness
+  unfit f e = rw (sym h.answer ∙ e)
+
+  pub ddls_are : ddls_of r.sweep ≡ ddls_in (sections s)
+  ddls_are = ap ddls_in h.lists
+
+  pub luminances_are : luminances_of r.sweep ≡ luminances_in (sections s)
+  luminances_are = ap luminances_in h.lists
+
+  pub check_is : values r.check ≡ check_in (sections s)
+  check_is = ap check_in h.lists
+
+  module _ (job : Job) (e : r.job ≡ Ok job) where
+    is_accepted : answer_of s ≡ Ok job
     is_accepted = sym h.answer ∙ e
 
-    pub accepted : AcceptedJob s job
-    accepted = accepted_job s job is_accepted
+    display : Measurable job (ddls_in (sections s)) (luminances_in (sections s))
+    display = measurable (accepted_job s job is_accepted)
 
-    pub in_order : r.first.0 ≤ r.last.0
-    in_order = rw (h.first, h.last) (climbs (measurable accepted)).order
+    -- by the first and the last reading
+    module _ {first last : Luminance} {n : ℕ} (en : n ≡ r.sweep.count) (f : first.0 ≡ get_or (luminances_of r.sweep) 0 0) (l : last.0 ≡ get_or (luminances_of r.sweep) (n - 1) 0) where
+      first_is : first.0 ≡ get_or (luminances_in (sections s)) 0 0
+      first_is = f ∙ ap (λ (xs : List ℕ). get_or xs 0 0) luminances_are
 
-    -- its room mark, by the light that is worked out from it
-    pub mark_is : {light : Light} {mark : RoomMark} → light ≡ light_of job → mark ≡ room_mark light.room.0 r.first.0
-        → mark ≡ room_mark (room_of job) (get_or (luminances_in (sections s)) 0 0)
-    mark_is el e = e ∙ rw (el, h.first)
+      last_is : last.0 ≡ get_or (luminances_in (sections s)) (length (luminances_in (sections s)) - 1) 0
+      last_is = rw (← luminances_are, fields_length) (l ∙ ap (λ (k : ℕ). get_or (luminances_of r.sweep) (k - 1) 0) en)
 
-    -- by what tests 8, 9 and 10 find
-    module _ {x : Ranged} (t : x ≡ range_tests (added_of job + r.first.0) (added_of job + r.last.0)) where
-      tests_are : sweep_tests (added_of job) (luminances_in (sections s)) ≡ x
-      tests_are = rw (← h.first, ← h.last) (sym t)
+      pub in_order : first.0 ≤ last.0
+      in_order = rw (first_is, last_is) (climbs display).order
 
-      pub sent_back : (f : Refusal) → x ≡ Fault f → soundness s ≡ unsound f
-      sent_back f q = sound_as s job is_accepted ∙ faulted (measurable accepted) f (tests_are ∙ q)
+      -- by the light that is worked out from the job, and what tests 8, 9 and 10 find
+      module _ {light : Light} (k : light ≡ light_of job) {x : Result IndexRange Refusal} (t : x ≡ range_tests (light.added.0 + first.0) (light.added.0 + last.0)) where
+        tests_are : sweep_tests (added_of job) (luminances_in (sections s)) ≡ x
+        tests_are = rw (← first_is, ← last_is) (sym (rw k at t))
 
-      pub passed_tests : (indices : IndexRange) → x ≡ Wide indices → PassedTests s job indices
-      passed_tests indices q = record { accepted = is_accepted; wide = tests_are ∙ q }
+        pub sent_back : (q : Refusal) → x ≡ Err q → soundness s ≡ Err q
+        sent_back q a = sound_as s job is_accepted ∙ faulted display q (tests_are ∙ a)
+
+        pub passed_tests : (indices : IndexRange) → x ≡ Ok indices → PassedTests s (record { found = r; job = job; light = light; indices = indices })
+        passed_tests indices a = record { read = h; accepted = is_accepted; light = k; wide = tests_are ∙ a }
+
+module _ {s : List ℕ} {tested : TestedJob} (p : PassedTests s tested) where
+  pub display_of : Measurable tested.job (ddls_in (sections s)) (luminances_in (sections s))
+  display_of = measurable (accepted_job s tested.job p.accepted)
+
+  -- its room mark
+  pub mark_is : {first : Luminance} {mark : RoomMark} → first.0 ≡ get_or (luminances_of tested.found.sweep) 0 0 → mark ≡ room_mark tested.light.room.0 first.0
+      → mark ≡ room_mark (room_of tested.job) (get_or (luminances_in (sections s)) 0 0)
+  mark_is f e = e ∙ rw (p.light, f, luminances_are p.read)

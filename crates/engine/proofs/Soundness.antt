@@ -6,10 +6,9 @@ use Prim.Native.Nat.{ℕ, ◌+◌, ◌-◌, ◌≤◌, zero-le}
 use native.Mathlib.Nat.{le_refl, le_trans}
 use native.Mathlib.Omega.{arith}
 use lib.ListN.{length, get_or}
+use Rattle.std.specs.Prelude.{Result, Ok, Err}
 use Rattle.record.specs.Tests.{answer_of}
 use Rattle.record.specs.declared.Job.{Job}
-use Rattle.record.specs.declared.Answer.{Answer}
-use Rattle.record.specs.declared.Answer.TheVariants.{Accepted, Refused}
 use Rattle.record.proofs.Accepted.{accepted_job}
 use Rattle.gsdf.specs.DisplayFunction.{luminance_of, index_of}
 use Rattle.curve.specs.Curve.{curve_of, Sweep}
@@ -18,17 +17,15 @@ use Rattle.target.specs.Target.{Aims}
 use Rattle.target.specs.declared.IndexRange.{IndexRange}
 use Rattle.target.proofs.Laws as target
 use Rattle.target.proofs.Ranges.{range_black, range_white, range_between}
-use Rattle.engine.specs.Sound.{SoundJob, sound, IsSound, added_of, top_of, measured, soundness}
+use Rattle.record.specs.declared.Refusal.{Refusal}
+use Rattle.engine.specs.Sound.{SoundJob, IsSound, added_of, top_of, measured, soundness}
 use Rattle.engine.specs.Drawing.{sweep_tests}
-use Rattle.engine.specs.declared.Ranged.{Ranged}
-use Rattle.engine.specs.declared.Ranged.TheVariants.{Wide, Fault}
 use Rattle.engine.proofs.Measuring.{Measurable, top_low, top_high, order, Passed, through, faulted, made_of, kept, aims}
 use Rattle.engine.proofs.Reading.{measurable}
-use Rattle.engine.proofs.Clashes.{sound_unsound, same_sound}
-use Rattle.gsdf.specs.Table.{table_b1}
+use Rattle.engine.proofs.Clashes.{ok_err, same_ok}
 
 module _ {job : Job} {ddls luminances : List ℕ} (m : Measurable job ddls luminances) (error : job.settings.tolerance ≤ 1000) where
-  module _ (indices : IndexRange) (e : sweep_tests (added_of job) luminances ≡ Wide indices) where
+  module _ (indices : IndexRange) (e : sweep_tests (added_of job) luminances ≡ Ok indices) where
     made_sound : IsSound (made_of m indices e)
     made_sound =
         let s : Sweep ddls luminances (top_of job) = m.sweep in
@@ -36,7 +33,7 @@ module _ {job : Job} {ddls luminances : List ℕ} (m : Measurable job ddls lumin
         let top : ℕ = top_of job in
         let low : 255 ≤ top = top_low job.settings.depth m.depth_low m.depth_high in
         let high : top ≤ 1023 = top_high job.settings.depth m.depth_low m.depth_high in
-        let a : Aims table_b1 indices.low.0 indices.range.0 255 = aims m indices e table_b1 refl in
+        let a : Aims indices.low.0 indices.range.0 255 = aims m indices e in
         let p : Passed (added + get_or luminances 0 0) (added + get_or luminances (length luminances - 1) 0) indices = through m indices e in
         let n : length luminances ≡ length ddls = s.pairs in
         let lc = curve.curve_length s added in
@@ -75,20 +72,20 @@ module _ {job : Job} {ddls luminances : List ℕ} (m : Measurable job ddls lumin
           tolerance = error;
         }
 
-  measured_sound : (made : SoundJob) → measured job ddls luminances ≡ sound made → IsSound made
+  measured_sound : (made : SoundJob) → measured job ddls luminances ≡ Ok made → IsSound made
   measured_sound made e = go (sweep_tests (added_of job) luminances) refl
     where
-      go : (x : Ranged) → sweep_tests (added_of job) luminances ≡ x → IsSound made
-      go (Fault r) t = absurd (sound_unsound (sym e ∙ faulted m r t))
-      go (Wide indices) t =
-          let same : made_of m indices t ≡ made = same_sound (sym (kept m indices t) ∙ e) in
+      go : (x : Result IndexRange Refusal) → sweep_tests (added_of job) luminances ≡ x → IsSound made
+      go (Err r) t = absurd (ok_err (sym e ∙ faulted m r t))
+      go (Ok indices) t =
+          let same : made_of m indices t ≡ made = same_ok (sym (kept m indices t) ∙ e) in
           subst IsSound same (made_sound indices t)
 
 -- the job of every record that is sound
-pub sound_job : (bytes : List ℕ) (job : SoundJob) → soundness bytes ≡ sound job → IsSound job
+pub sound_job : (bytes : List ℕ) (job : SoundJob) → soundness bytes ≡ Ok job → IsSound job
 unfolding soundness
 sound_job bytes job e = go (answer_of bytes) refl
   where
-    go : (x : Answer) → answer_of bytes ≡ x → IsSound job
-    go (Refused r) t = absurd (sound_unsound (sym (rw t at e)))
-    go (Accepted j) t = measured_sound (measurable (accepted_job bytes j t)) (accepted_job bytes j t).tolerance job (rw t at e)
+    go : (x : Result Job Refusal) → answer_of bytes ≡ x → IsSound job
+    go (Err r) t = absurd (ok_err (sym (rw t at e)))
+    go (Ok j) t = measured_sound (measurable (accepted_job bytes j t)) (accepted_job bytes j t).tolerance job (rw t at e)

@@ -1,67 +1,50 @@
 -- The contrast check of a job record.
-use Rattle.std.specs.Prelude.{ℕ, ◌*◌, ◌≤◌, ◌<◌, ◌≡◌, List, ◌++◌, cond, ◌⊎◌, ℤ, pos, nat_abs, length, drop, ltb, eqb, ◌<ℤ◌, ◌≤ℤ◌}
+use Rattle.std.specs.Prelude.{ℕ, ◌*◌, ◌≤◌, ◌<◌, ◌≡◌, List, ◌++◌, Option, Some, None, Result, Ok, Err, if◌then◌else◌, nat_lt, ◌==◌, ◌⊎◌, ℤ, pos, nat_abs, length, drop, ◌<ℤ◌, ◌≤ℤ◌}
 use Rattle.gsdf.specs.DisplayFunction.{jnd_luminance}
 use Rattle.record.specs.Refusals.{refusal_number}
-use Rattle.record.specs.Sections.{sections, check_in}
-use Rattle.record.specs.declared.Refusal.TheVariants.{LentTooShort, CheckOutsideTable, CheckRangeTooNarrow}
+use Rattle.record.specs.Sections.{after, sections, check_in}
+use Rattle.record.specs.declared.Refusal.{Refusal}
+use Rattle.record.specs.declared.Refusal.TheVariants.{LentTooShort}
 use Rattle.record.specs.declared.Job.{Job}
-use Rattle.record.specs.declared.Class.{Class}
-use Rattle.record.specs.declared.Class.TheVariants.{Primary, Secondary}
 use Rattle.contrast.specs.Deviation.{expected_contrast, excess}
-use Rattle.contrast.specs.Check.{shown, check_range, at_pair, limit_parts, deviations_of, contrast_of, deviations_over}
-use Rattle.contrast.specs.declared.Limit.{Limit}
-use Rattle.contrast.specs.declared.Limit.TheVariants.{TenPercent, TwentyPercent}
+use Rattle.contrast.specs.Check.{shown, check_range, at_pair, limit_of, limit_parts, deviations_of, contrast_of, deviations_over}
+use Rattle.contrast.specs.declared.Verdict.{Verdict}
 use Rattle.contrast.specs.declared.Verdict.TheVariants as verdict
-use Rattle.contrast.specs.declared.Contrast.{Contrast}
-use Rattle.contrast.specs.declared.Contrast.TheVariants as contrast
-use Rattle.engine.specs.Sound.{Soundness, sound, unsound, soundness, added_of}
+use Rattle.engine.specs.Sound.{SoundJob, soundness, added_of}
 use Rattle.engine.specs.Conditions.{SendsBack, GoesOn}
-use Rattle.engine.specs.declared.CheckAnswer.{CheckAnswer}
-use Rattle.engine.specs.declared.CheckAnswer.TheVariants.{Judged, NotMeasured, Refused}
 
 -- ---- the answer and the lent places, as equations
-
--- the limits of TG-18
-abbrev pub limit_of : Class → Limit
-limit_of Primary = TenPercent
-limit_of Secondary = TwentyPercent
 
 -- v of document 01, by an accepted job and its check readings
 abbrev pub check_luminance : Job → (readings : List ℕ) → ℕ → ℕ
 check_luminance job readings = shown (added_of job) readings
 
--- the verdict, or refusal 12 or 13
-abbrev pub contrast_answer : Contrast → CheckAnswer
-contrast_answer (contrast.Judged verdict) = Judged verdict
-contrast_answer contrast.OutsideTable = Refused CheckOutsideTable
-contrast_answer contrast.CheckTooNarrow = Refused CheckRangeTooNarrow
-
--- the check of a sound job by its check readings, which may be none
-unfoldable pub check_of : Job → (readings : List ℕ) → CheckAnswer
+-- the check of a sound job by its check readings: no verdict where there are none, else it or refusal 12 or 13
+unfoldable pub check_of : Job → (readings : List ℕ) → Result (Option Verdict) Refusal
 check_of job readings =
-    cond (eqb (length readings) 0) NotMeasured (contrast_answer (contrast_of (limit_of job.settings.class) (check_luminance job readings)))
+    if length readings == 0 then Ok None else
+    after (contrast_of (limit_of job.settings.class) (check_luminance job readings)) (λ verdict. Ok (Some verdict))
 
 -- the same after tests 2 to 10
-abbrev pub check_after : Soundness → (readings : List ℕ) → CheckAnswer
-check_after (sound job) readings = check_of job.accepted readings
-check_after (unsound r) readings = Refused r
+abbrev pub check_after : Result SoundJob Refusal → (readings : List ℕ) → Result (Option Verdict) Refusal
+check_after x readings = after x (λ job. check_of job.accepted readings)
 
 -- the answer, by the bytes of the record and the number of places lent: test 1 comes first
-unfoldable pub check_answer : (bytes : List ℕ) (places : ℕ) → CheckAnswer
-check_answer bytes places = cond (ltb places 17) (Refused LentTooShort) (check_after (soundness bytes) (check_in (sections bytes)))
+unfoldable pub check_answer : (bytes : List ℕ) (places : ℕ) → Result (Option Verdict) Refusal
+check_answer bytes places = if nat_lt places 17 then Err LentTooShort else check_after (soundness bytes) (check_in (sections bytes))
 
 -- the lent places after the check of a sound job
 unfoldable pub places_of : Job → (readings : List ℕ) → List ℤ → List ℤ
-places_of job readings before = cond (eqb (length readings) 0) before (deviations_over (check_luminance job readings) before)
+places_of job readings before = if length readings == 0 then before else deviations_over (check_luminance job readings) before
 
 -- and after tests 2 to 10
-abbrev pub places_over : Soundness → (readings : List ℕ) → List ℤ → List ℤ
-places_over (sound job) readings before = places_of job.accepted readings before
-places_over (unsound r) readings before = before
+abbrev pub places_over : Result SoundJob Refusal → (readings : List ℕ) → List ℤ → List ℤ
+places_over (Ok job) readings before = places_of job.accepted readings before
+places_over (Err r) readings before = before
 
 -- the lent places afterwards: the deviations and the later ones as they were, or all as they were
 unfoldable pub check_lent : (bytes : List ℕ) (before : List ℤ) → List ℤ
-check_lent bytes before = cond (ltb (length before) 17) before (places_over (soundness bytes) (check_in (sections bytes)) before)
+check_lent bytes before = if nat_lt (length before) 17 then before else places_over (soundness bytes) (check_in (sections bytes)) before
 
 -- ---- the same in document 01's numbers and conditions
 
@@ -73,11 +56,11 @@ pub data CheckValues : Type 0 where
   number : ℕ → CheckValues
 
 -- document 01's word or number for each answer
-abbrev pub check_values : CheckAnswer → CheckValues
-check_values NotMeasured = not_measured
-check_values (Judged verdict.Pass) = pass
-check_values (Judged verdict.Fail) = fail
-check_values (Refused r) = number (refusal_number r)
+abbrev pub check_values : Result (Option Verdict) Refusal → CheckValues
+check_values (Ok None) = not_measured
+check_values (Ok (Some verdict.Pass)) = pass
+check_values (Ok (Some verdict.Fail)) = fail
+check_values (Err r) = number (refusal_number r)
 
 -- v(0) to v(17) of a record
 abbrev pub v : (bytes : List ℕ) → Job → ℕ → ℕ
@@ -117,7 +100,7 @@ pub data CheckOutcome (bytes : List ℕ) (before : List ℤ) : (after : List ℤ
       → CheckOutcome bytes before (deviations_of (v bytes job) ++ drop 17 before) fail
 
 -- what the operation promises of its answer and of the places after it
-pub record CheckPromise (bytes : List ℕ) (before after : List ℤ) (answer : CheckAnswer) : Type 0 where
+pub record CheckPromise (bytes : List ℕ) (before after : List ℤ) (answer : Result (Option Verdict) Refusal) : Type 0 where
   pub answers : answer ≡ check_answer bytes (length before)
   pub deviations : after ≡ check_lent bytes before
   pub outcome : CheckOutcome bytes before after (check_values answer)

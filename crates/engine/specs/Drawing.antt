@@ -1,41 +1,42 @@
--- What stands between tests 2 to 10 of a job and its tables: what its functions ask and promise.
-use Rattle.std.specs.Prelude.{ℕ, ◌+◌, ◌-◌, ◌≤◌, ◌≡◌, List, length, get_or, take}
+-- What stands between tests 2 to 10 of a record and its tables: what its functions ask and promise.
+use Rattle.std.specs.Prelude.{ℕ, ◌+◌, ◌-◌, ◌≤◌, ◌≡◌, List, Result, Ok, length, get_or, take}
 use Rattle.record.specs.Sections.{sections, luminances_in}
 use Rattle.record.specs.Tests.{answer_of}
+use Rattle.record.specs.Reader.{ReadFrom}
 use Rattle.record.specs.declared.Job.{Job}
-use Rattle.record.specs.declared.Answer.TheVariants.{Accepted}
+use Rattle.record.specs.declared.Refusal.{Refusal}
 use Rattle.curve.specs.Room.{room_mark}
 use Rattle.target.specs.declared.IndexRange.{IndexRange}
-use Rattle.engine.specs.Sound.{sound, soundness, room_of, added_of, range_tests}
+use Rattle.engine.specs.Sound.{soundness, room_of, added_of, range_tests}
 use Rattle.engine.specs.declared.Light.{Light}
-use Rattle.engine.specs.declared.Ranged.{Ranged}
-use Rattle.engine.specs.declared.Ranged.TheVariants.{Wide}
+use Rattle.engine.specs.declared.TestedJob.{TestedJob}
 
 -- the light of a job
 abbrev pub light_of : Job → Light
 light_of job = record { room = record { 0 = room_of job }; added = record { 0 = added_of job } }
 
 -- tests 8, 9 and 10 by A and the luminances of a sweep
-abbrev pub sweep_tests : (added : ℕ) (luminances : List ℕ) → Ranged
+abbrev pub sweep_tests : (added : ℕ) (luminances : List ℕ) → Result IndexRange Refusal
 sweep_tests added luminances = range_tests (added + get_or luminances 0 0) (added + get_or luminances (length luminances - 1) 0)
 
--- a record with this job passed tests 2 to 10, with these indices
-pub record PassedTests (bytes : List ℕ) (job : Job) (indices : IndexRange) : Type 0 where
-  pub accepted : answer_of bytes ≡ Accepted job
-  pub wide : sweep_tests (added_of job) (luminances_in (sections bytes)) ≡ Wide indices
+-- a record passed tests 2 to 10: what was read of it, its job, its light and its indices
+pub record PassedTests (bytes : List ℕ) (tested : TestedJob) : Type 0 where
+  pub read : ReadFrom bytes (Ok tested.found)
+  pub accepted : answer_of bytes ≡ Ok tested.job
+  pub light : tested.light ≡ light_of tested.job
+  pub wide : sweep_tests (added_of tested.job) (luminances_in (sections bytes)) ≡ Ok tested.indices
 
--- an array for the curve, and one for the targets
-pub record Arrays (curve targets : List ℕ) : Type 0 where
-  pub levels : length curve ≡ 1024
-  pub values : length targets ≡ 256
+-- some record did
+abbrev pub SomeRecord : TestedJob → Type 0
+SomeRecord tested = (bytes : List ℕ) × PassedTests bytes tested
 
--- a record is sound: its job, its indices, its curve at the front of an array, its targets in another, and its room mark
-pub record Drawn (bytes : List ℕ) (job : Job) (indices : IndexRange) (levels : ℕ) (curve targets : List ℕ) : Type 0 where
+-- a record is sound, with its curve at the front of an array and its targets in another
+pub record Drawn (bytes : List ℕ) (tested : TestedJob) (levels : ℕ) (curve targets : List ℕ) : Type 0 where
   pub fits : levels ≤ length curve
-  pub is : soundness bytes ≡ sound (record {
-    accepted = job;
+  pub is : soundness bytes ≡ Ok (record {
+    accepted = tested.job;
     curve = take levels curve;
     targets = targets;
-    indices = indices;
-    mark = room_mark (room_of job) (get_or (luminances_in (sections bytes)) 0 0);
+    indices = tested.indices;
+    mark = room_mark (room_of tested.job) (get_or (luminances_in (sections bytes)) 0 0);
   })

@@ -1,21 +1,18 @@
 -- The even table of a job record.
-use Rattle.std.specs.Prelude.{ℕ, ◌+◌, ◌-◌, ◌*◌, ◌≤◌, ◌<◌, ◌≡◌, List, ◌++◌, Bool, cond, ◌||◌, ◌⊎◌, ◌↔◌, length, get_or, take, drop, ltb}
+use Rattle.std.specs.Prelude.{ℕ, ◌+◌, ◌-◌, ◌*◌, ◌≤◌, ◌<◌, ◌≡◌, List, ◌++◌, Option, ok_or, Result, Ok, Err, Bool, if◌then◌else◌, nat_lt, ◌||◌, ◌⊎◌, ◌↔◌, length, get_or, take, drop}
 use Rattle.laws.specs.Numbers.{distance, max_of}
 use Rattle.laws.specs.Rises.{NeverFalls}
 use Rattle.record.specs.Refusals.{refusal_number}
+use Rattle.record.specs.Sections.{after}
 use Rattle.record.specs.declared.Refusal.{Refusal}
 use Rattle.record.specs.declared.Refusal.TheVariants.{LentTooShort, NoTable}
 use Rattle.record.specs.declared.Job.{Job}
 use Rattle.target.specs.Target.{target_at}
 use Rattle.even.specs.Even.{Given, step_deviation, FirstDifference}
 use Rattle.even.specs.Filled.{given, outcome_of, even_over}
-use Rattle.even.specs.declared.Outcome.{Outcome}
-use Rattle.even.specs.declared.Outcome.TheVariants as outcome
-use Rattle.engine.specs.Sound.{SoundJob, Soundness, sound, unsound, soundness, top_of}
+use Rattle.engine.specs.Sound.{SoundJob, soundness, top_of}
 use Rattle.engine.specs.Conditions.{F, jlo, N, SendsBack, GoesOn}
 use Rattle.engine.specs.declared.EvenFigures.{EvenFigures}
-use Rattle.engine.specs.declared.EvenAnswer.{EvenAnswer}
-use Rattle.engine.specs.declared.EvenAnswer.TheVariants.{Made, Refused}
 
 -- ---- the answer and the lent entries, as equations
 
@@ -23,29 +20,28 @@ use Rattle.engine.specs.declared.EvenAnswer.TheVariants.{Made, Refused}
 abbrev pub given_by : SoundJob → Given
 given_by job = given job.curve job.targets job.accepted.settings.tolerance
 
-abbrev pub outcome_answer : Outcome → EvenAnswer
-outcome_answer (outcome.Table worst) = Made (record { worst = worst })
-outcome_answer outcome.NoTable = Refused NoTable
+-- the worst step of its table, or refusal 11 where there is none
+abbrev pub outcome_answer : Option ℕ → Result EvenFigures Refusal
+outcome_answer outcome = after (ok_or outcome NoTable) (λ worst. Ok (record { worst = worst }))
 
-abbrev pub even_of : Soundness → EvenAnswer
-even_of (sound job) = outcome_answer (outcome_of (given_by job))
-even_of (unsound r) = Refused r
+abbrev pub even_of : Result SoundJob Refusal → Result EvenFigures Refusal
+even_of x = after x (λ job. outcome_answer (outcome_of (given_by job)))
 
 -- test 1: fewer than 256 entries, or fewer than 8,192 words
 abbrev pub too_little : (entries words : ℕ) → Bool
-too_little entries words = ltb entries 256 || ltb words 8192
+too_little entries words = nat_lt entries 256 || nat_lt words 8192
 
 -- the answer, by the bytes of the record and the numbers of entries and words lent
-unfoldable pub even_answer : (bytes : List ℕ) (entries words : ℕ) → EvenAnswer
-even_answer bytes entries words = cond (too_little entries words) (Refused LentTooShort) (even_of (soundness bytes))
+unfoldable pub even_answer : (bytes : List ℕ) (entries words : ℕ) → Result EvenFigures Refusal
+even_answer bytes entries words = if too_little entries words then Err LentTooShort else even_of (soundness bytes)
 
-abbrev pub even_entries : Soundness → List ℕ → List ℕ
-even_entries (sound job) before = even_over (given_by job) before
-even_entries (unsound r) before = before
+abbrev pub even_entries : Result SoundJob Refusal → List ℕ → List ℕ
+even_entries (Ok job) before = even_over (given_by job) before
+even_entries (Err r) before = before
 
 -- the lent entries afterwards: the table and the later ones as they were, or all as they were
 unfoldable pub even_lent : (bytes before : List ℕ) (words : ℕ) → List ℕ
-even_lent bytes before words = cond (too_little (length before) words) before (even_entries (soundness bytes) before)
+even_lent bytes before words = if too_little (length before) words then before else even_entries (soundness bytes) before
 
 -- ---- document 01's even table
 
@@ -95,9 +91,9 @@ pub data EvenValues : Type 0 where
   worst : ℕ → EvenValues
   number : ℕ → EvenValues
 
-abbrev pub even_values : EvenAnswer → EvenValues
-even_values (Made figures) = worst figures.worst
-even_values (Refused r) = number (refusal_number r)
+abbrev pub even_values : Result EvenFigures Refusal → EvenValues
+even_values (Ok figures) = worst figures.worst
+even_values (Err r) = number (refusal_number r)
 
 -- test 1 is passed
 pub record Enough (before work : List ℕ) : Type 0 where
@@ -113,24 +109,24 @@ pub data EvenOutcome (bytes before work : List ℕ) : (after : List ℕ) → Eve
       → EvenOutcome bytes before work (table ++ drop 256 before) (worst (worst_step bytes job table))
 
 -- the answer is a table, and the job is sound
-pub record MadeFor (bytes : List ℕ) (job : Job) (answer : EvenAnswer) : Type 0 where
+pub record MadeFor (bytes : List ℕ) (job : Job) (answer : Result EvenFigures Refusal) : Type 0 where
   pub goes_on : GoesOn bytes job
   pub figures : EvenFigures
-  pub is : answer ≡ Made figures
+  pub is : answer ≡ Ok figures
 
 -- what the operation promises of its answer and of the entries and the words after it
-pub record EvenPromise (bytes before after work work_after : List ℕ) (answer : EvenAnswer) : Type 0 where
+pub record EvenPromise (bytes before after work work_after : List ℕ) (answer : Result EvenFigures Refusal) : Type 0 where
   pub answers : answer ≡ even_answer bytes (length before) (length work)
   pub table : after ≡ even_lent bytes before (length work)
   -- words from 8,192 on are as they were, and all of them where the job is refused; after a table the first 8,192 hold what they may
   pub words_size : length work_after ≡ length work
   pub words_later : (i : ℕ) → 8192 ≤ i → get_or work_after i 0 ≡ get_or work i 0
-  pub words_refused : {r : Refusal} → answer ≡ Refused r → work_after ≡ work
+  pub words_refused : {r : Refusal} → answer ≡ Err r → work_after ≡ work
   pub outcome : EvenOutcome bytes before work after (even_values answer)
   -- demand 3. "No table" is answered exactly where every list, falling or not, misses some target by more than the error
-  pub no_table : {job : Job} → Enough before work → GoesOn bytes job → (answer ≡ Refused NoTable) ↔ ((levels : List ℕ) → WithinError bytes job levels → ⊥)
+  pub no_table : {job : Job} → Enough before work → GoesOn bytes job → (answer ≡ Err NoTable) ↔ ((levels : List ℕ) → WithinError bytes job levels → ⊥)
   -- in every other case there is a table, and the first 256 entries are it
-  pub otherwise : {job : Job} → Enough before work → GoesOn bytes job → (answer ≡ Refused NoTable → ⊥) → MadeFor bytes job answer
+  pub otherwise : {job : Job} → Enough before work → GoesOn bytes job → (answer ≡ Err NoTable → ⊥) → MadeFor bytes job answer
   pub even : {job : Job} → MadeFor bytes job answer → IsEvenTable bytes job (take 256 after)
   -- no entry is below the one before it, and none misses its target by more than the error
   pub never_falls : {job : Job} → MadeFor bytes job answer → NeverFalls (take 256 after)

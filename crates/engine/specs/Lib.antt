@@ -8,4 +8,3 @@ pub mod EvenFacts
 pub mod Check
 pub mod CheckFacts
 pub mod Drawing
-pub mod Checking

@@ -6,9 +6,8 @@ use Rattle.curve.specs.Curve.{curve_at}
 use Rattle.nearest.specs.Nearest.{nearest_level}
 use Rattle.even.specs.Even.{step_deviation}
 use Rattle.contrast.specs.Deviation.{deviation_of, keeps_limit}
-use Rattle.contrast.specs.Check.{limit_parts}
+use Rattle.contrast.specs.Check.{limit_of, limit_parts}
 use Rattle.record.specs.declared.Class.TheVariants.{Primary}
-use Rattle.engine.specs.Check.{limit_of}
 
 pub record MarkedExamples : Type 0 where
   pub index_500 : index_of 500 ≡ 102

@@ -1,7 +1,8 @@
 -- The nearest table of a job record.
-use Rattle.std.specs.Prelude.{ℕ, ◌≤◌, ◌<◌, ◌≡◌, List, ◌++◌, cond, length, get_or, drop, ltb}
+use Rattle.std.specs.Prelude.{ℕ, ◌≤◌, ◌<◌, ◌≡◌, List, ◌++◌, Result, Ok, Err, if◌then◌else◌, nat_lt, length, get_or, drop}
 use Rattle.record.specs.Refusals.{refusal_number}
-use Rattle.record.specs.Sections.{sections, ddls_in, luminances_in}
+use Rattle.record.specs.Sections.{after, sections, ddls_in, luminances_in}
+use Rattle.record.specs.declared.Refusal.{Refusal}
 use Rattle.record.specs.declared.Refusal.TheVariants.{LentTooShort}
 use Rattle.record.specs.declared.Job.{Job}
 use Rattle.curve.specs.Room.{room_mark}
@@ -9,11 +10,9 @@ use Rattle.curve.specs.Curve.{curve_of}
 use Rattle.curve.specs.declared.RoomMark.{RoomMark}
 use Rattle.target.specs.Target.{targets_of}
 use Rattle.nearest.specs.Nearest.{nearest_table, largest_error}
-use Rattle.engine.specs.Sound.{SoundJob, Soundness, sound, unsound, soundness, room_of, added_of, top_of}
+use Rattle.engine.specs.Sound.{SoundJob, soundness, room_of, added_of, top_of}
 use Rattle.engine.specs.Conditions.{jlo, jhi, N, SendsBack, GoesOn}
 use Rattle.engine.specs.declared.NearestFigures.{NearestFigures}
-use Rattle.engine.specs.declared.NearestAnswer.{NearestAnswer}
-use Rattle.engine.specs.declared.NearestAnswer.TheVariants.{Made, Refused}
 
 -- ---- the answer and the lent entries, as equations
 
@@ -28,21 +27,20 @@ nearest_figures job = record {
   error = record { 0 = largest_error job.curve job.targets (nearest_entries job) };
 }
 
-abbrev pub nearest_of : Soundness → NearestAnswer
-nearest_of (sound job) = Made (nearest_figures job)
-nearest_of (unsound r) = Refused r
+abbrev pub nearest_of : Result SoundJob Refusal → Result NearestFigures Refusal
+nearest_of x = after x (λ job. Ok (nearest_figures job))
 
 -- the answer, by the bytes of the record and the number of entries lent: test 1 comes first
-unfoldable pub nearest_answer : (bytes : List ℕ) (entries : ℕ) → NearestAnswer
-nearest_answer bytes entries = cond (ltb entries 256) (Refused LentTooShort) (nearest_of (soundness bytes))
+unfoldable pub nearest_answer : (bytes : List ℕ) (entries : ℕ) → Result NearestFigures Refusal
+nearest_answer bytes entries = if nat_lt entries 256 then Err LentTooShort else nearest_of (soundness bytes)
 
-abbrev pub entries_over : Soundness → List ℕ → List ℕ
-entries_over (sound job) before = nearest_entries job ++ drop (length job.targets) before
-entries_over (unsound r) before = before
+abbrev pub entries_over : Result SoundJob Refusal → List ℕ → List ℕ
+entries_over (Ok job) before = nearest_entries job ++ drop (length job.targets) before
+entries_over (Err r) before = before
 
 -- the lent entries afterwards: the table and the later ones as they were, or all as they were
 unfoldable pub nearest_lent : (bytes before : List ℕ) → List ℕ
-nearest_lent bytes before = cond (ltb (length before) 256) before (entries_over (soundness bytes) before)
+nearest_lent bytes before = if nat_lt (length before) 256 then before else entries_over (soundness bytes) before
 
 -- ---- the same in document 01's numbers and conditions
 
@@ -51,9 +49,9 @@ pub data NearestValues : Type 0 where
   values : (jlo jhi range : ℕ) (mark : RoomMark) (error : ℕ) → NearestValues
   number : ℕ → NearestValues
 
-abbrev pub nearest_values : NearestAnswer → NearestValues
-nearest_values (Made f) = values f.indices.low.0 f.indices.high.0 f.indices.range.0 f.mark f.error.0
-nearest_values (Refused r) = number (refusal_number r)
+abbrev pub nearest_values : Result NearestFigures Refusal → NearestValues
+nearest_values (Ok f) = values f.indices.low.0 f.indices.high.0 f.indices.range.0 f.mark f.error.0
+nearest_values (Err r) = number (refusal_number r)
 
 -- F(0) to F(M), and t(0) to t(255)
 abbrev pub curve : (bytes : List ℕ) → Job → List ℕ
@@ -80,7 +78,7 @@ pub data NearestOutcome (bytes before : List ℕ) : (after : List ℕ) → Neare
       → NearestOutcome bytes before (table bytes job ++ drop 256 before) (values (jlo bytes job) (jhi bytes job) (N bytes job) (mark bytes job) (error bytes job))
 
 -- what the operation promises of its answer and of the entries after it
-pub record NearestPromise (bytes before after : List ℕ) (answer : NearestAnswer) : Type 0 where
+pub record NearestPromise (bytes before after : List ℕ) (answer : Result NearestFigures Refusal) : Type 0 where
   pub answers : answer ≡ nearest_answer bytes (length before)
   pub table : after ≡ nearest_lent bytes before
   pub outcome : NearestOutcome bytes before after (nearest_values answer)

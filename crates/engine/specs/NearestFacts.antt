@@ -1,9 +1,9 @@
 -- What follows from the promise of the nearest table.
-use Rattle.std.specs.Prelude.{ℕ, ◌≤◌, ◌<◌, ◌≡◌, List, length, get_or}
+use Rattle.std.specs.Prelude.{ℕ, ◌≤◌, ◌<◌, ◌≡◌, List, Ok, length, get_or}
 use Rattle.nearest.specs.Nearest.{error_at, nearest_level}
 use Rattle.record.specs.Refusals.{refusal_number}
 use Rattle.record.specs.declared.Refusal.{Refusal}
-use Rattle.engine.specs.Sound.{SoundJob, sound, soundness, IsSound}
+use Rattle.engine.specs.Sound.{SoundJob, soundness, IsSound}
 use Rattle.engine.specs.Nearest.{NearestValues, nearest_values, nearest_answer, nearest_lent}
 use Rattle.engine.specs.declared.NearestFigures.{NearestFigures}
 
@@ -11,7 +11,7 @@ use Rattle.engine.specs.declared.NearestFigures.{NearestFigures}
 pub record MadeTable (bytes before after : List ℕ) (figures : NearestFigures) : Type 0 where
   -- the job is sound
   pub job : SoundJob
-  pub is : soundness bytes ≡ sound job
+  pub is : soundness bytes ≡ Ok job
   pub known : IsSound job
   -- Jlo, Jhi, N and the room mark are its
   pub indices : figures.indices ≡ job.indices

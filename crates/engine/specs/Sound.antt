@@ -1,22 +1,18 @@
 -- What a sound job makes, and what sends the others back: tests 2 to 10 in their order, for all operations.
-use Rattle.std.specs.Prelude.{ℕ, ◌+◌, ◌-◌, ◌≤◌, ◌<◌, ◌≡◌, List, cond, length, get_or}
+use Rattle.std.specs.Prelude.{ℕ, ◌+◌, ◌-◌, ◌≤◌, ◌<◌, ◌≡◌, List, Result, Ok, Err, if◌then◌else◌, length, get_or}
 use Rattle.laws.specs.Rises.{NeverFalls}
 use Rattle.gsdf.specs.DisplayFunction.{luminance_of, index_of, InTable}
-use Rattle.record.specs.Sections.{sections, ddls_in, luminances_in}
+use Rattle.record.specs.Sections.{after, sections, ddls_in, luminances_in}
 use Rattle.record.specs.Tests.{max_ddl, answer_of}
 use Rattle.record.specs.declared.Refusal.{Refusal}
 use Rattle.record.specs.declared.Refusal.TheVariants.{BlackBelowTable, WhiteAboveTable, RangeTooNarrow}
 use Rattle.record.specs.declared.Job.{Job}
-use Rattle.record.specs.declared.Answer.{Answer}
-use Rattle.record.specs.declared.Answer.TheVariants.{Accepted, Refused}
 use Rattle.curve.specs.Room.{room_luminance, added_luminance, room_mark}
 use Rattle.gsdf.specs.Ends.{below_table, above_table}
 use Rattle.curve.specs.Curve.{curve_at, curve_of}
 use Rattle.curve.specs.declared.RoomMark.{RoomMark}
 use Rattle.target.specs.Target.{range_of, too_narrow, targets_of}
 use Rattle.target.specs.declared.IndexRange.{IndexRange}
-use Rattle.engine.specs.declared.Ranged.{Ranged}
-use Rattle.engine.specs.declared.Ranged.TheVariants.{Wide, Fault}
 
 -- what the operations work with
 pub record SoundJob : Type 0 where
@@ -31,11 +27,6 @@ pub record SoundJob : Type 0 where
   -- the room mark
   pub mark : RoomMark
 
--- a job is sound, by tests 2 to 10, or is sent back; test 1 is of what is lent, and each operation's own
-pub data Soundness : Type 0 where
-  sound : SoundJob → Soundness
-  unsound : Refusal → Soundness
-
 -- A0 of a job
 abbrev pub room_of : Job → ℕ
 room_of job = room_luminance job.lamps.0 job.settings.reflectance.0
@@ -49,38 +40,29 @@ abbrev pub top_of : Job → ℕ
 top_of job = max_ddl job.settings.depth
 
 -- tests 8, 9 and 10 in their order, by F(0) and F(M)
-unfoldable pub range_tests : (black white : ℕ) → Ranged
+unfoldable pub range_tests : (black white : ℕ) → Result IndexRange Refusal
 range_tests black white =
-    cond (below_table black) (Fault BlackBelowTable)
-    (cond (above_table white) (Fault WhiteAboveTable)
-    (cond (too_narrow (range_of black white).range.0) (Fault RangeTooNarrow)
-    (Wide (range_of black white))))
+    if below_table black then Err BlackBelowTable else
+    (if above_table white then Err WhiteAboveTable else
+    (if too_narrow (range_of black white).range.0 then Err RangeTooNarrow else
+    Ok (range_of black white)))
 
 -- what an accepted job and its sweep make
-unfoldable pub measured : (job : Job) (ddls luminances : List ℕ) → Soundness
-measured job ddls luminances = after (range_tests (F 0) (F (top_of job)))
-  where
-    F : ℕ → ℕ
-    F = curve_at (added_of job) ddls luminances
-
-    after : Ranged → Soundness
-    after (Fault r) = unsound r
-    after (Wide indices) = sound (record {
+unfoldable pub measured : (job : Job) (ddls luminances : List ℕ) → Result SoundJob Refusal
+measured job ddls luminances =
+    let F = curve_at (added_of job) ddls luminances in
+    after (range_tests (F 0) (F (top_of job)))
+    (λ indices. Ok (record {
       accepted = job;
       curve = curve_of (added_of job) ddls luminances (top_of job);
       targets = targets_of indices.low.0 indices.range.0 255;
       indices = indices;
       mark = room_mark (room_of job) (get_or luminances 0 0);
-    })
+    }))
 
--- what follows the reading of a record and tests 2 to 7
-abbrev pub after_reading : Answer → (ddls luminances : List ℕ) → Soundness
-after_reading (Accepted job) ddls luminances = measured job ddls luminances
-after_reading (Refused r) ddls luminances = unsound r
-
--- a record of any bytes
-unfoldable pub soundness : (bytes : List ℕ) → Soundness
-soundness bytes = after_reading (answer_of bytes) (ddls_in (sections bytes)) (luminances_in (sections bytes))
+-- what a record of any bytes makes, or what sends it back by tests 2 to 10; test 1 is of what is lent, and each operation's own
+unfoldable pub soundness : (bytes : List ℕ) → Result SoundJob Refusal
+soundness bytes = after (answer_of bytes) (λ job. measured job (ddls_in (sections bytes)) (luminances_in (sections bytes)))
 
 -- what is known of each sound job
 pub record IsSound (job : SoundJob) : Type 0 where

@@ -1,187 +1,130 @@
 // The operations on a job record: the tests in their order, then the layers below.
 #![tactic(auto)]
 
-ghost use Rattle.std.specs.Prelude.{◌≡◌, length, take, ◌+◌, ◌≤◌};
-ghost use Rattle.gsdf.specs.Table.{table_b1};
-ghost use Rattle.engine.specs.Sound.{added_of, range_tests};
-ghost use Rattle.engine.specs.Drawing.{light_of, PassedTests, Arrays, Drawn};
+ghost use Rattle.std.specs.Prelude.{◌≡◌, ◌+◌, ◌≤◌, ℕ, List, MatchResult};
+ghost use Rattle.record.specs.Reader.{values};
+ghost use Rattle.engine.specs.Sound.{range_tests, soundness};
+ghost use Rattle.engine.specs.Drawing.{light_of, PassedTests, SomeRecord, Drawn};
 ghost use Rattle.engine.specs.Nearest.{NearestPromise};
-ghost use Rattle.engine.specs.Even.{too_little, outcome_answer, EvenPromise};
-ghost use Rattle.engine.specs.Check.{limit_of, contrast_answer, CheckPromise};
-ghost use Rattle.engine.specs.Checking.{tested_by, CheckFront, JobChecked};
+ghost use Rattle.engine.specs.Even.{too_little, EvenPromise};
+ghost use Rattle.engine.specs.Check.{CheckPromise};
 
-use contrast::{Contrast, Limit, Verdict};
+use contrast::Verdict;
 use curve::RoomMark;
-use even::Outcome;
-use record::{Answer, Class, Job, Refusal};
+use even::Problem;
+use record::{Items, Job, JobRecord, Refusal};
 use target::IndexRange;
 use units::{Luminance, PValue};
 
-// What tests 8, 9 and 10 find. (This type and the next two are public because definitions are stated with them.)
-#[derive(Drop)]
-pub enum Ranged {
-    Wide(IndexRange),
-    Fault(Refusal),
-}
-
-// The same without the indices, for an operation that needs none.
-#[derive(Drop)]
-pub enum Tested {
-    Passed,
-    Failed(Refusal),
-}
-
-// The light of a job's room, A0, and what of it is added to its readings, A.
-#[derive(Drop)]
+// The light of a job's room, A0, and what of it is added to its readings, A. (Public because definitions are stated with it.)
+#[derive(Clone, Copy)]
 pub struct Light {
     pub room: Luminance,
     pub added: Luminance,
 }
 
 // The figures of a nearest table: Jlo, Jhi and N, the room mark, and the largest error over its entries.
-#[derive(Drop)]
+#[derive(Clone, Copy)]
 pub struct NearestFigures {
     pub indices: IndexRange,
     pub mark: RoomMark,
     pub error: Luminance,
 }
 
-#[derive(Drop)]
-pub enum NearestAnswer {
-    Made(NearestFigures),
-    Refused(Refusal),
-}
-
 // The figures of an even table: its worst step, in thousandths of the step that is wanted, rounded up.
-#[derive(Drop)]
+#[derive(Clone, Copy)]
 pub struct EvenFigures {
     pub worst: u64,
 }
 
+// A record that passed tests 2 to 10: its job, the light of the job's room, and its index range.
 #[derive(Drop)]
-pub enum EvenAnswer {
-    Made(EvenFigures),
-    Refused(Refusal),
-}
-
-// The verdict of a check, or that the record has none, or what sends it back.
-#[derive(Drop)]
-pub enum CheckAnswer {
-    Judged(Verdict),
-    NotMeasured,
-    Refused(Refusal),
-}
-
-// Tests 8, 9 and 10, by the first and the last reading and the light added to them, with Table B-1 lent.
-fn test_range(b1: &[u32; 1023], added: Luminance, first: Luminance, last: Luminance) -> Ranged
-    requires { (b1.now ≡ table_b1) × (first.0 ≤ last.0) }
-    ensures { result ≡ range_tests (added.0 + first.0) (added.0 + last.0) }
-{
-    if gsdf::is_below_table(added, first) {
-        return Ranged::Fault(Refusal::BlackBelowTable);
-    }
-    if gsdf::is_above_table(added, last) {
-        return Ranged::Fault(Refusal::WhiteAboveTable);
-    }
-    let light = added.0;
-    let darkest = first.0;
-    let brightest = last.0;
-    let black = light + darkest;
-    let white = light + brightest;
-    let indices = target::index_range(b1, Luminance(black), Luminance(white));
-    let range = indices.range;
-    if target::is_too_narrow(range) {
-        return Ranged::Fault(Refusal::RangeTooNarrow);
-    }
-    Ranged::Wide(indices)
+struct TestedJob<'a> {
+    found: JobRecord<'a>,
+    job: Job,
+    light: Light,
+    indices: IndexRange,
 }
 
 fn light_of(job: Job) -> Light
     ensures { result ≡ light_of job }
 {
-    let settings = job.settings;
-    let meter = settings.meter;
-    let reflectance = settings.reflectance;
-    let lux = job.lamps;
-    let room = curve::room_luminance(lux, reflectance);
-    let added = curve::added_luminance(meter, room);
-    Light {
-        room: room,
-        added: added,
+    let room = curve::room_luminance(job.lamps, job.settings.reflectance);
+    let added = curve::added_luminance(job.settings.meter, room);
+    Light { room, added }
+}
+
+// Tests 8, 9 and 10, by the first and the last reading and the light added to them.
+fn test_range(added: Luminance, first: Luminance, last: Luminance) -> Result<IndexRange, Refusal>
+    requires { first.0 ≤ last.0 }
+    ensures { result ≡ range_tests (added.0 + first.0) (added.0 + last.0) }
+{
+    if gsdf::is_below_table(added, first) {
+        return Err(Refusal::BlackBelowTable);
     }
+    if gsdf::is_above_table(added, last) {
+        return Err(Refusal::WhiteAboveTable);
+    }
+    let black = Luminance(added.0 + first.0);
+    let white = Luminance(added.0 + last.0);
+    let indices = target::index_range(black, white);
+    if indices.is_too_narrow() {
+        return Err(Refusal::RangeTooNarrow);
+    }
+    Ok(indices)
 }
 
-// Tests 8, 9 and 10 of an accepted job, by the first and the last reading of its sweep.
-fn test_job(b1: &[u32; 1023], job: Job, first: Luminance, last: Luminance) -> Ranged
-    requires { (b1.now ≡ table_b1) × (first.0 ≤ last.0) }
-    ensures { result ≡ range_tests (added_of job + first.0) (added_of job + last.0) }
+// Tests 2 to 10.
+fn test_record(bytes: &[u8]) -> Result<TestedJob<'_>, Refusal>
+    ensures { MatchResult result (PassedTests bytes.now) (λ r. soundness bytes.now ≡ Err r) }
 {
+    let found = record::read_record(bytes)?;
+    let job = found.job?;
     let light = light_of(job);
-    let added = light.added;
-    test_range(b1, added, first, last)
+    let first = found.sweep.get(0);
+    let last = found.sweep.get(found.sweep.len() - 1);
+    let indices = test_range(light.added, first.luminance, last.luminance)?;
+    Ok(TestedJob {
+        found,
+        job,
+        light,
+        indices,
+    })
 }
 
-// The curve of a job that passed tests 2 to 10 into the front of an array, and its targets into another; how many levels the curve has.
-fn draw(
-    b1: &[u32; 1023],
-    bytes: &[u8],
-    job: Job,
-    indices: IndexRange,
-    curve: &mut [u32],
-    targets: &mut [u32],
-) -> usize
-    requires { (b1.now ≡ table_b1) × PassedTests bytes.now job indices × Arrays curve.old targets.old }
-    ensures { Drawn bytes.now job indices result curve.new targets.new }
-{
-    let mut ddls = [0u16; 1024];
-    let mut luminances = [0u32; 1024];
-    let n = record::fill_sweep(bytes, &mut ddls, &mut luminances);
-    let light = light_of(job);
-    let added = light.added;
-    let settings = job.settings;
-    let depth = settings.depth;
-    let top = record::max_ddl(depth);
-    curve::fill_curve(&ddls[..n], &luminances[..n], top, added, curve);
-    let low = indices.low;
-    let range = indices.range;
-    target::fill_targets(b1, low, range, PValue(255), targets);
-    let highest = top.0;
-    highest as usize + 1
+impl TestedJob<'_> {
+    // The curve into the front of an array, and the targets into another; how many levels the curve has. The arrays are the caller's, since a struct of
+    // both would be copied, and there is no heap.
+    fn draw(&self, curve: &mut [u32; 1024], targets: &mut [u32; 256]) -> usize
+        requires { SomeRecord self.now }
+        ensures { (bytes : List ℕ) → PassedTests bytes self.now → Drawn bytes self.now result curve.new targets.new }
+    {
+        let top = record::max_ddl(self.job.settings.depth);
+        curve::fill_curve(&self.found.sweep, top, self.light.added, curve);
+        self.indices.fill_targets(PValue(255), targets);
+        top.0 as usize + 1
+    }
 }
 
 // The nearest table of a record, into the front of a lent slice.
-pub fn nearest_table(bytes: &[u8], table: &mut [u16]) -> NearestAnswer
+pub fn nearest_table(bytes: &[u8], table: &mut [u16]) -> Result<NearestFigures, Refusal>
     ensures { NearestPromise bytes.now table.old table.new result }
 {
     if table.len() < 256 {
-        return NearestAnswer::Refused(Refusal::LentTooShort);
+        return Err(Refusal::LentTooShort);
     }
-    let found = record::read_record(bytes);
-    let answer = found.answer;
-    match answer {
-        Answer::Refused(r) => NearestAnswer::Refused(r),
-        Answer::Accepted(job) => {
-            let b1 = gsdf::table_b1();
-            let ranged = test_job(&b1, job, found.first, found.last);
-            match ranged {
-                Ranged::Fault(r) => NearestAnswer::Refused(r),
-                Ranged::Wide(indices) => {
-                    let mut curve = [0u32; 1024];
-                    let mut targets = [0u32; 256];
-                    let levels = draw(&b1, bytes, job, indices, &mut curve, &mut targets);
-                    let error = nearest::fill_table(&curve[..levels], &targets, table);
-                    let light = light_of(job);
-                    let room = light.room;
-                    let mark = curve::room_mark(room, found.first);
-                    NearestAnswer::Made(NearestFigures {
-                        indices: indices,
-                        mark: mark,
-                        error: error,
-                    })
-                }
-            }
-        }
-    }
+    let tested = test_record(bytes)?;
+    let mut curve = [0u32; 1024];
+    let mut targets = [0u32; 256];
+    let levels = tested.draw(&mut curve, &mut targets);
+    let error = nearest::fill_table(&curve[..levels], &targets, table);
+    let first = tested.found.sweep.get(0);
+    let mark = curve::room_mark(tested.light.room, first.luminance);
+    Ok(NearestFigures {
+        indices: tested.indices,
+        mark,
+        error,
+    })
 }
 
 // Test 1 of the even table: fewer than 256 entries or fewer than 8,192 words are lent.
@@ -191,137 +134,56 @@ fn is_too_little(entries: usize, words: usize) -> bool
     (entries < 256) | (words < 8192)
 }
 
-fn even_answer(outcome: Outcome) -> EvenAnswer
-    ensures { result ≡ outcome_answer outcome }
-{
-    match outcome {
-        Outcome::Table(worst) => EvenAnswer::Made(EvenFigures { worst: worst }),
-        Outcome::NoTable => EvenAnswer::Refused(Refusal::NoTable),
-    }
-}
-
 // The even table of a record, into the front of a lent slice; the first 8,192 of the words lent are worked in.
-pub fn even_table(bytes: &[u8], table: &mut [u16], work: &mut [u32]) -> EvenAnswer
+pub fn even_table(bytes: &[u8], table: &mut [u16], work: &mut [u32]) -> Result<EvenFigures, Refusal>
     ensures { EvenPromise bytes.now table.old table.new work.old work.new result }
 {
     if is_too_little(table.len(), work.len()) {
-        return EvenAnswer::Refused(Refusal::LentTooShort);
+        return Err(Refusal::LentTooShort);
     }
-    let found = record::read_record(bytes);
-    let answer = found.answer;
-    match answer {
-        Answer::Refused(r) => EvenAnswer::Refused(r),
-        Answer::Accepted(job) => {
-            let b1 = gsdf::table_b1();
-            let ranged = test_job(&b1, job, found.first, found.last);
-            match ranged {
-                Ranged::Fault(r) => EvenAnswer::Refused(r),
-                Ranged::Wide(indices) => {
-                    let mut curve = [0u32; 1024];
-                    let mut targets = [0u32; 256];
-                    let levels = draw(&b1, bytes, job, indices, &mut curve, &mut targets);
-                    let settings = job.settings;
-                    let tolerance = settings.tolerance;
-                    let mut starts = [0u16; 256];
-                    let mut ends = [0u16; 256];
-                    let outcome = even::fill_table(
-                        &curve[..levels],
-                        &targets,
-                        tolerance,
-                        &mut starts,
-                        &mut ends,
-                        table,
-                        work,
-                    );
-                    even_answer(outcome)
-                }
-            }
-        }
-    }
+    let tested = test_record(bytes)?;
+    let mut curve = [0u32; 1024];
+    let mut targets = [0u32; 256];
+    let levels = tested.draw(&mut curve, &mut targets);
+    let problem = Problem {
+        curve: &curve[..levels],
+        targets: &targets,
+        tolerance: tested.job.settings.tolerance,
+    };
+    let mut starts = [0u16; 256];
+    let mut ends = [0u16; 256];
+    let worst = problem
+        .fill_table(&mut starts, &mut ends, table, work)
+        .ok_or(Refusal::NoTable)?;
+    Ok(EvenFigures { worst })
 }
 
-fn tested_by(ranged: Ranged) -> Tested
-    ensures { result ≡ tested_by ranged }
+// The readings of a check's 18 patches, in an array, since `contrast::check` takes readings from anywhere.
+fn readings_of(check: &Items<'_, u32>) -> [u32; 18]
+    requires { check.now.count ≡ 18 }
+    ensures { result ≡ values check.now }
 {
-    match ranged {
-        Ranged::Wide(indices) => Tested::Passed,
-        Ranged::Fault(r) => Tested::Failed(r),
+    let mut readings = [0u32; 18];
+    for (i, reading) in readings.iter_mut().enumerate() {
+        *reading = check.get(i);
     }
+    readings
 }
 
-// Tests 8, 9 and 10 of an accepted job without its indices. Table B-1 is copied only for a display that is not clearly wide; `check_job` takes
-// a copy of its own, since hardly a display needs both.
-fn test_without_indices(job: Job, first: Luminance, last: Luminance) -> Tested
-    requires { first.0 ≤ last.0 }
-    ensures { result ≡ tested_by (range_tests (added_of job + first.0) (added_of job + last.0)) }
-{
-    let light = light_of(job);
-    let added = light.added;
-    if target::is_clearly_wide(added, first, last) {
-        return Tested::Passed;
-    }
-    let b1 = gsdf::table_b1();
-    let ranged = test_range(&b1, added, first, last);
-    tested_by(ranged)
-}
-
-fn limit_of(class: Class) -> Limit
-    ensures { result ≡ limit_of class }
-{
-    match class {
-        Class::Primary => Limit::TenPercent,
-        Class::Secondary => Limit::TwentyPercent,
-    }
-}
-
-fn contrast_answer(contrast: Contrast) -> CheckAnswer
-    ensures { result ≡ contrast_answer contrast }
-{
-    match contrast {
-        Contrast::Judged(verdict) => CheckAnswer::Judged(verdict),
-        Contrast::OutsideTable => CheckAnswer::Refused(Refusal::CheckOutsideTable),
-        Contrast::CheckTooNarrow => CheckAnswer::Refused(Refusal::CheckRangeTooNarrow),
-    }
-}
-
-// The check of a job, after tests 2 to 10; the m readings of the check are at the front of a slice.
-fn check_job(job: Job, check: &[u32], m: usize, deviations: &mut [i32]) -> CheckAnswer
-    requires { CheckFront check.now m × (17 ≤ length deviations.old) }
-    ensures { JobChecked job (take m check.now) result deviations.old deviations.new }
-{
-    if m == 0 {
-        return CheckAnswer::NotMeasured;
-    }
-    let light = light_of(job);
-    let added = light.added;
-    let settings = job.settings;
-    let class = settings.class;
-    let limit = limit_of(class);
-    let b1 = gsdf::table_b1();
-    let contrast = contrast::check(&b1, check, added, limit, deviations);
-    contrast_answer(contrast)
-}
-
-// The contrast check of a record; its deviations go into the front of a lent slice.
-pub fn contrast_check(bytes: &[u8], deviations: &mut [i32]) -> CheckAnswer
+// The contrast check of a record, if it has one; its deviations go into the front of a lent slice.
+pub fn contrast_check(bytes: &[u8], deviations: &mut [i32]) -> Result<Option<Verdict>, Refusal>
     ensures { CheckPromise bytes.now deviations.old deviations.new result }
 {
     if deviations.len() < 17 {
-        return CheckAnswer::Refused(Refusal::LentTooShort);
+        return Err(Refusal::LentTooShort);
     }
-    let found = record::read_record(bytes);
-    let answer = found.answer;
-    match answer {
-        Answer::Refused(r) => CheckAnswer::Refused(r),
-        Answer::Accepted(job) => {
-            let tested = test_without_indices(job, found.first, found.last);
-            match tested {
-                Tested::Failed(r) => CheckAnswer::Refused(r),
-                Tested::Passed => {
-                    let m = found.patches;
-                    check_job(job, &found.check, m, deviations)
-                }
-            }
-        }
+    let tested = test_record(bytes)?;
+    let patches = tested.found.check.len();
+    if patches == 0 {
+        return Ok(None);
     }
+    let readings = readings_of(&tested.found.check);
+    let limit = tested.job.settings.class.into();
+    let verdict = contrast::check(&readings, tested.light.added, limit, deviations)?;
+    Ok(Some(verdict))
 }

@@ -9,7 +9,7 @@ use Rattle.even.specs.Even.{Given, step_deviation, worst_step}
 use Rattle.even.specs.Paths.{continues, good, next, lowest_path}
 use Rattle.even.specs.Table.{allowed_at, has_no_table, step_within, feasible, lowest_levels, least_worst, even_table}
 use Rattle.even.specs.Filled.{given, outcome_of}
-use Rattle.even.specs.declared.Outcome.TheVariants.{NoTable}
+use Rattle.std.specs.Prelude.{None}
 
 -- ---- the step deviation: document 01's marked examples
 
@@ -37,7 +37,7 @@ unfolding even_table least_worst lowest_levels feasible step_within allowed_at g
 lower_first = refl
 
 -- no level lies within the error of 20
-pub none_near : outcome_of (given (10 ∷ 30 ∷ []) (10 ∷ 20 ∷ 30 ∷ []) 100) ≡ NoTable
+pub none_near : outcome_of (given (10 ∷ 30 ∷ []) (10 ∷ 20 ∷ 30 ∷ []) 100) ≡ None
 unfolding outcome_of has_no_table least_worst lowest_levels feasible step_within allowed_at good continues next lowest_path step_deviation any lowest max_of tab
 none_near = refl
 

@@ -37,15 +37,15 @@ pub record Halving (x : Given) (before words : List ℕ) (low high : ℕ) (ready
   pub kept : KeptFrom (length x.targets - 1) before words
   pub rows : ready ≡ true → RowsGood x words high 0
 
-module _ {x : Given} {bound : ℕ} {starts ends before : List ℕ} (asks : SearchAsks x bound starts ends before) where
+module _ {x : Given} {bound : ℕ} {before : List ℕ} (ok : Workable x) (some : has_no_table x ≡ false) (asks : SearchAsks x bound before) where
   some_table : T (not (has_no_table x))
-  some_table = no_is asks.some
+  some_table = no_is some
 
   pub halving_first : Halving x before before 0 bound false
   halving_first = record {
     left = zero-le;
     bounded = rw asks.bound_is (le_refl _);
-    enough = rw asks.bound_is (bound_feasible x asks.workable.usable some_table);
+    enough = rw asks.bound_is (bound_feasible x ok.usable some_table);
     none_below = λ j l. absurd (not-suc-le-zero l);
     kept = kept_all _ before;
     rows = λ e. absurd (subst T (sym e) tt);
@@ -55,21 +55,18 @@ module _ {x : Given} {bound : ℕ} {starts ends before : List ℕ} (asks : Searc
     found : high ≤ low → least_worst x ≡ low
     found l =
         let same : high ≡ low = le_antisymm l h.left in
-        least_is x asks.workable.usable some_table low (le_trans h.left h.bounded)
+        least_is x ok.usable some_table low (le_trans h.left h.bounded)
         (subst (λ (j : ℕ). T (feasible x j)) same h.enough) h.none_below
 
     -- what a pass at k asks
-    pub pass_asks : (k : ℕ) → k ≤ high → RowsAsk x k starts ends words
+    pub pass_asks : (k : ℕ) → k ≤ high → RowsAsk x k words
     pass_asks k l = record {
-      workable = asks.workable;
-      runs = asks.runs;
-      some = asks.some;
-      last = last_kept asks.workable h.kept asks.last;
-      small = le_trans l (le_trans h.bounded (worst_top asks.workable _ (low_allowed x asks.workable.usable (every_level x asks.workable.usable some_table))));
+      last = last_kept ok h.kept asks.last;
+      small = le_trans l (le_trans h.bounded (worst_top ok _ (low_allowed x ok.usable (every_level x ok.usable some_table))));
     }
 
-    module _ {after : List ℕ} {k : ℕ} {some : Bool} (passed : RowsFilled x k words after some) where
-      pub halving_yes : low ≤ k → k ≤ high → some ≡ true → Halving x before after low k some
+    module _ {after : List ℕ} {k : ℕ} {good : Bool} (passed : RowsFilled x k words after good) where
+      pub halving_yes : low ≤ k → k ≤ high → good ≡ true → Halving x before after low k good
       halving_yes a b e = record {
         left = a;
         bounded = le_trans b h.bounded;
@@ -79,7 +76,7 @@ module _ {x : Given} {bound : ℕ} {starts ends before : List ℕ} (asks : Searc
         rows = passed.rows;
       }
 
-      pub halving_no : k < high → some ≡ false → Halving x before after (k + 1) high some
+      pub halving_no : k < high → good ≡ false → Halving x before after (k + 1) high good
       halving_no b e = record {
         left = omega arith;
         bounded = h.bounded;
@@ -93,7 +90,7 @@ module _ {x : Given} {bound : ℕ} {starts ends before : List ℕ} (asks : Searc
       pub filled_again : k ≡ low → high ≤ low → Searched x before after low
       filled_again e l =
           let same : high ≡ low = le_antisymm l h.left in
-          let yes : some ≡ true = passed.decides ∙ is_yes _ (subst (λ (j : ℕ). T (feasible x j)) (same ∙ sym e) h.enough) in
+          let yes : good ≡ true = passed.decides ∙ is_yes _ (subst (λ (j : ℕ). T (feasible x j)) (same ∙ sym e) h.enough) in
           record {
             kept = kept_then h.kept passed.kept;
             least = sym (found l);

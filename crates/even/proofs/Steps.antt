@@ -1,14 +1,16 @@
 -- Steps whose deviation is at most k.
 -- Assumes nothing.
 use Prim.Native.Nat.{ℕ, suc, ◌+◌, ◌-◌, ◌*◌, ◌/◌, ◌≤◌, ◌<◌, suc-le-suc}
-use mathlib.Core.Path.{◌≡◌}
+use mathlib.Core.Path.{◌≡◌, ◌∙◌}
 use mathlib.Core.Logic.{◌↔◌}
 use mathlib.Core.Bool.{◌&&◌}
-use native.Mathlib.Nat.{le_of_suc-le-suc, suc-mul, mul-one, mul-le-mul_left, div-lt_iff_lt-mul}
+use native.Mathlib.Nat.{le_antisymm, le_of_suc-le-suc, suc-mul, mul-one, mul-le-mul_left, div-lt_iff_lt-mul, le-div_iff_mul-le}
 use native.Mathlib.Omega.{arith}
 use lib.Dec.{T, leb}
 use lib.ListN.{length}
 use mir.Facts.{and_yes, yes_and, leb_yes, yes_leb}
+use Rattle.std.specs.Int.{div_ceil}
+use Rattle.std.proofs.lemmas.Grind.{div_ceil_times}
 use Rattle.laws.specs.Numbers.{distance}
 use Rattle.laws.proofs.Cases.{same_outcome}
 use Rattle.reach.specs.Rows.{step_fits}
@@ -25,6 +27,16 @@ rounded_up a g k h = (to, from)
 
     from : a ≤ k * g → (a + (g - 1)) / g ≤ k
     from l = le_of_suc-le-suc ((div-lt_iff_lt-mul {y = suc k} h).1 (omega (arith, suc-mul k g)))
+
+-- and so it is as the library computes it
+ceil_is : (a g : ℕ) → 0 < g → div_ceil a g ≡ (a + (g - 1)) / g
+ceil_is a g h =
+    let (low, high) = div_ceil_times a g h in
+    le_antisymm ((le-div_iff_mul-le {k = g} h).1 (omega arith)) ((rounded_up a g (div_ceil a g) h).1 low)
+
+pub deviation_is : (f g a r : ℕ) → 0 < g → a ≡ distance f g → r ≡ div_ceil (1000 * a) g → r ≡ step_deviation f g
+unfolding step_deviation
+deviation_is f g a r h d e = e ∙ rw d (ceil_is (1000 * distance f g) g h)
 
 -- the product c stands for k × g
 span : (f g c : ℕ) → (1000 * distance f g ≤ c) ↔ (((1000 * g - c + 999) / 1000 ≤ f) × (f ≤ (1000 * g + c) / 1000))

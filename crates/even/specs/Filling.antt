@@ -1,29 +1,26 @@
 -- What the parts of the even table's code ask and leave.
-use Rattle.std.specs.Prelude.{ℕ, ◌-◌, ◌*◌, ◌^◌, ◌≤◌, ◌<◌, ◌≡◌, Bool, true, false, cond, List, ◌++◌, length, drop}
+use Rattle.std.specs.Prelude.{ℕ, ◌-◌, ◌*◌, ◌^◌, ◌≤◌, ◌<◌, ◌≡◌, Bool, true, false, cond, List, ◌++◌, Option, Some, None, length, drop}
 use Rattle.laws.specs.Fill.{tab}
 use Rattle.reach.specs.Rows.{lit}
 use Rattle.even.specs.Even.{Given, worst_step}
 use Rattle.even.specs.Paths.{lowest_path}
 use Rattle.even.specs.Table.{allowed_at, has_no_table, good_at, feasible, tables_within, lowest_levels, least_worst, even_table}
 use Rattle.even.specs.Runs.{run_from, run_to, AreRuns}
-use Rattle.even.specs.Filled.{Workable, Lent, KeptFrom}
-use Rattle.even.specs.declared.Outcome.{Outcome}
-use Rattle.even.specs.declared.Outcome.TheVariants.{Table, NoTable}
+use Rattle.even.specs.Filled.{KeptFrom}
 
 -- what finding the runs asks: a place for each end
 pub record RunsAsk (x : Given) (starts ends : List ℕ) : Type 0 where
-  pub workable : Workable x
   pub starts_fit : length x.targets ≤ length starts
   pub ends_fit : length x.targets ≤ length ends
 
 -- the worst step of the lowest levels bounds that of the even table
-unfoldable pub first_bound : Given → Outcome
-first_bound x = cond (has_no_table x) NoTable (Table (worst_step x (lowest_levels x)))
+unfoldable pub first_bound : Given → Option ℕ
+first_bound x = cond (has_no_table x) None (Some (worst_step x (lowest_levels x)))
 
 -- the bound, and the runs where some table is allowed
-pub record RunsFound (x : Given) (starts ends : List ℕ) (bound : Outcome) : Type 0 where
+pub record RunsFound (x : Given) (starts ends : List ℕ) (bound : Option ℕ) : Type 0 where
   pub bound_is : bound ≡ first_bound x
-  pub runs : has_no_table x ≡ false → AreRuns x starts ends
+  pub runs_are : has_no_table x ≡ false → AreRuns x starts ends
 
 -- level d of the row of p is lit
 abbrev pub lit_at : Given → (words : List ℕ) (p d : ℕ) → Bool
@@ -39,10 +36,7 @@ pub record LastLit (x : Given) (words : List ℕ) : Type 0 where
   pub lit_last : (d : ℕ) → d < length x.curve → lit_at x words (length x.targets - 1) d ≡ allowed_at x (length x.targets - 1) d
 
 -- what filling the rows for k asks
-pub record RowsAsk (x : Given) (k : ℕ) (starts ends words : List ℕ) : Type 0 where
-  pub workable : Workable x
-  pub runs : AreRuns x starts ends
-  pub some : has_no_table x ≡ false
+pub record RowsAsk (x : Given) (k : ℕ) (words : List ℕ) : Type 0 where
   pub last : LastLit x words
   pub small : k ≤ 1000 * 2 ^ 26
 
@@ -53,10 +47,7 @@ pub record RowsFilled (x : Given) (k : ℕ) (before after : List ℕ) (some : Bo
   pub rows : some ≡ true → RowsGood x after k 0
 
 -- what the search for the least worst step asks: the bound is that of the lowest levels
-pub record SearchAsks (x : Given) (bound : ℕ) (starts ends words : List ℕ) : Type 0 where
-  pub workable : Workable x
-  pub runs : AreRuns x starts ends
-  pub some : has_no_table x ≡ false
+pub record SearchAsks (x : Given) (bound : ℕ) (words : List ℕ) : Type 0 where
   pub last : LastLit x words
   pub bound_is : bound ≡ worst_step x (lowest_levels x)
 
@@ -67,9 +58,7 @@ pub record Searched (x : Given) (before after : List ℕ) (k : ℕ) : Type 0 whe
   pub rows : RowsGood x after k 0
 
 -- what writing the table asks: rows filled for k, which some allowed table keeps
-pub record WriteAsks (x : Given) (k : ℕ) (starts ends words before : List ℕ) : Type 0 where
-  pub workable : Workable x
-  pub runs : AreRuns x starts ends
+pub record WriteAsks (x : Given) (k : ℕ) (words before : List ℕ) : Type 0 where
   pub some : feasible x k ≡ true
   pub rows : RowsGood x words k 0
   pub there : 32 * length x.targets ≤ length words
@@ -80,11 +69,10 @@ pub record WriteAsks (x : Given) (k : ℕ) (starts ends words before : List ℕ)
 abbrev pub lowest_within : Given → (k : ℕ) → List ℕ
 lowest_within x k = tab (lowest_path (tables_within x k)) (length x.targets)
 
--- what making it asks: the runs are found, and some table is allowed
-pub record MakeAsks (x : Given) (bound : ℕ) (starts ends before words : List ℕ) : Type 0 where
-  pub lent : Lent x before words
-  pub runs : AreRuns x starts ends
-  pub some : has_no_table x ≡ false
+-- what making it asks: room, and the bound that the lowest levels give
+pub record MakeAsks (x : Given) (bound : ℕ) (before words : List ℕ) : Type 0 where
+  pub entries_fit : length x.targets ≤ length before
+  pub rows_fit : 32 * length x.targets ≤ length words
   pub bound_is : bound ≡ worst_step x (lowest_levels x)
 
 -- the table written, and the words after the rows as before

@@ -4,4 +4,5 @@ pub mod Table
 pub mod Runs
 pub mod Steps
 pub mod Filled
+pub mod Problems
 pub mod Filling

@@ -1,6 +1,7 @@
 -- The levels allowed at a P-value are a run: from where the curve enters the band around the target to where it leaves it.
-use Rattle.std.specs.Prelude.{ℕ, ◌+◌, ◌-◌, ◌*◌, ◌/◌, ◌≤◌, ◌<◌, ◌≡◌, List, leb, length, get_or}
+use Rattle.std.specs.Prelude.{ℕ, ◌+◌, ◌-◌, ◌*◌, ◌/◌, ◌≤◌, ◌<◌, ◌≡◌, List, Option, Some, None, leb, length, get_or}
 use Rattle.laws.specs.Search.{lowest}
+use Rattle.reach.specs.declared.Run.{Run}
 use Rattle.even.specs.Even.{Given, t}
 
 -- the error allowed around a target, as a luminance, rounded down
@@ -42,10 +43,13 @@ pub record NotAbove (curve : List ℕ) (tolerance target from to : ℕ) : Type 0
   pub from_low : from ≤ enters curve tolerance target
   pub to_low : to ≤ leaves curve tolerance target
 
--- what two lists hold at p
-pub record RunAt (starts ends : List ℕ) (p from to : ℕ) : Type 0 where
-  pub from_is : from ≡ get_or starts p 0
-  pub to_is : to ≡ get_or ends p 0
+-- the run of a target, or that it has no level
+abbrev pub RunFound : (curve : List ℕ) (tolerance target : ℕ) → Option Run → Type 0
+RunFound curve tolerance target (Some run) = (run.from < run.to) × IsRun curve tolerance target run.from run.to
+RunFound curve tolerance target None = leaves curve tolerance target ≤ enters curve tolerance target
+
+abbrev pub run_of : Given → (p : ℕ) → Run
+run_of x p = record { from = run_from x p; to = run_to x p }
 
 -- two lists hold the runs of all P-values: where each starts, and where it has ended
 pub record AreRuns (x : Given) (starts ends : List ℕ) : Type 0 where

@@ -1,26 +1,41 @@
 // The even table of any curve and any targets.
 #![tactic(auto)]
 
-ghost use Rattle.std.specs.Prelude.{◌≡◌, true, false, ◌++◌, length, drop, max, ◌+◌, ◌*◌, ◌^◌, ◌<◌, ◌≤◌};
-ghost use Rattle.laws.specs.Numbers.{distance};
+ghost use Rattle.std.specs.Prelude.{◌≡◌, true, false, ◌++◌, length, drop, ◌+◌, ◌*◌, ◌^◌, ◌<◌, ◌≤◌};
 ghost use Rattle.even.specs.Even.{step_deviation};
-ghost use Rattle.even.specs.Runs.{darkest, brightest, reaching, IsRun, NotAbove, RunAt};
-ghost use Rattle.even.specs.Filled.{given, FillAsks, EvenFilled};
-ghost use Rattle.even.specs.Filling.{RunsAsk, RunsFound, RowsAsk, RowsFilled, SearchAsks, Searched, WriteAsks, lowest_within, MakeAsks, Made};
+ghost use Rattle.even.specs.Table.{has_no_table};
+ghost use Rattle.even.specs.Runs.{darkest, brightest, reaching, NotAbove, RunFound, AreRuns};
+ghost use Rattle.even.specs.Filled.{given, Workable};
 ghost use Rattle.even.specs.Steps.{IsSpan};
 
-use reach::Run;
+use reach::{Run, Span};
 use units::Luminance;
 
-// What comes of a search for the even table: its worst step, in thousandths, or that no list of levels keeps within the allowed error.
-#[derive(Drop)]
-pub enum Outcome {
-    Table(u64),
-    NoTable,
+// What a table is made for.
+#[derive(Clone, Copy)]
+pub struct Problem<'a> {
+    // The luminance of each drive level.
+    pub curve: &'a [u32],
+    // The luminance that is wanted of each P-value.
+    pub targets: &'a [u32],
+    // The allowed error, in thousandths of a target.
+    pub tolerance: u16,
+    pub ghost workable: { Workable (given curve.now targets.now tolerance) },
 }
 
-// The luminances that are allowed around a target.
-#[derive(Drop)]
+// A problem with an allowed table, and the run of each P-value.
+#[derive(Clone, Copy)]
+struct Found<'a> {
+    problem: Problem<'a>,
+    // Two slices, as C lends them.
+    starts: &'a [u16],
+    ends: &'a [u16],
+    ghost are_runs: { AreRuns (given problem.curve.now problem.targets.now problem.tolerance) starts.now ends.now },
+    ghost some_table: { has_no_table (given problem.curve.now problem.targets.now problem.tolerance) ≡ false },
+}
+
+// The luminances that are allowed around a target. A std Range is no plainer: its ends have no names of their own.
+#[derive(Clone, Copy)]
 struct Band {
     // The lowest of them.
     dark: Luminance,
@@ -33,59 +48,26 @@ fn band_of(tolerance: u16, target: Luminance) -> Band
     ensures { (result.dark.0 ≡ darkest tolerance target.0) × (result.bright.0 ≡ brightest tolerance target.0 + 1) }
 {
     let t = target.0;
-    let product = tolerance as u64 * t as u64;
+    let product = u64::from(tolerance) * u64::from(t);
     let error = (product / 1000) as u32;
-    let dark = t - error;
-    let bright = t + error + 1;
     Band {
-        dark: Luminance(dark),
-        bright: Luminance(bright),
+        dark: Luminance(t - error),
+        bright: Luminance(t + error + 1),
     }
 }
 
 // The first level that is not darker than l, from one that is not above it.
-fn rise_to(curve: &[u32], l: Luminance, mut d: usize) -> usize
-    requires { d ≤ reaching curve.now l.0 }
+fn rise_to(curve: &[u32], l: Luminance, from: usize) -> usize
+    requires { from ≤ reaching curve.now l.0 }
     ensures { result ≡ reaching curve.now l.0 }
 {
-    while d < curve.len() {
+    // By hand: tried as std's `find`, and the proof did not close.
+    for d in from..curve.len() {
         if l.0 <= curve[d] {
             return d;
         }
-        d += 1;
     }
-    d
-}
-
-// The run of a target, from that of a target that is not above it.
-fn run_up(curve: &[u32], tolerance: u16, target: Luminance, run: Run) -> Run
-    requires tolerance_bound { (tolerance ≤ 1000) × (target.0 < 2 ^ 26) }
-    requires not_above { NotAbove curve.now tolerance target.0 run.from run.to }
-    ensures { IsRun curve.now tolerance target.0 result.from result.to }
-{
-    let band = band_of(tolerance, target);
-    let from = rise_to(curve, band.dark, run.from);
-    let to = rise_to(curve, band.bright, run.to);
-    Run { from, to }
-}
-
-fn larger(a: u64, b: u64) -> u64
-    ensures { result ≡ max a b }
-{
-    if a < b {
-        return b;
-    }
-    a
-}
-
-// |a − b|
-fn difference(a: u64, b: u64) -> u64
-    ensures { result ≡ distance a b }
-{
-    if a < b {
-        return b - a;
-    }
-    a - b
+    curve.len()
 }
 
 // The step deviation of a step f where g is wanted.
@@ -93,255 +75,186 @@ fn step_deviation(f: Luminance, g: Luminance) -> u64
     requires { 0 < g.0 }
     ensures { result ≡ step_deviation f.0 g.0 }
 {
-    let step = f.0 as u64;
-    let wanted = g.0 as u64;
-    let apart = difference(step, wanted);
-    (1000 * apart + (wanted - 1)) / wanted
+    let wanted = u64::from(g.0);
+    (1000 * u64::from(f.0).abs_diff(wanted)).div_ceil(wanted)
 }
 
-// Finds the run of each P-value, and the worst step of the table of the lowest allowed levels, which bounds that of the even table;
-// or that some P-value has no allowed level.
-fn find_runs(
-    curve: &[u32],
-    targets: &[u32],
-    tolerance: u16,
-    starts: &mut [u16],
-    ends: &mut [u16],
-) -> Outcome
-    requires { RunsAsk (given curve.now targets.now tolerance) starts.old ends.old }
-    ensures { RunsFound (given curve.now targets.now tolerance) starts.new ends.new result }
-{
-    let last = targets.len() - 1;
-    let mut target = targets[0];
-    let first = run_up(curve, tolerance, Luminance(target), Run { from: 0, to: 0 });
-    let mut from = first.from;
-    let mut to = first.to;
-    if to <= from {
-        return Outcome::NoTable;
-    }
-    let mut worst: u64 = 0;
-    let mut p: usize = 0;
-    while p < last {
-        starts[p] = from as u16;
-        ends[p] = to as u16;
-        let next = p + 1;
-        let next_target = targets[next];
-        let run = run_up(curve, tolerance, Luminance(next_target), Run { from, to });
-        let next_from = run.from;
-        let next_to = run.to;
-        if next_to <= next_from {
-            return Outcome::NoTable;
-        }
-        let f = curve[next_from] - curve[from];
-        let g = next_target - target;
-        let deviation = step_deviation(Luminance(f), Luminance(g));
-        worst = larger(worst, deviation);
-        from = next_from;
-        to = next_to;
-        target = next_target;
-        p = next;
-    }
-    starts[p] = from as u16;
-    ends[p] = to as u16;
-    Outcome::Table(worst)
-}
-
-// The run of P-value p, of those that were found.
-fn run_at(starts: &[u16], ends: &[u16], p: usize) -> Run
-    requires { (p < length starts.now) × (p < length ends.now) }
-    ensures { RunAt starts.now ends.now p result.from result.to }
-{
-    let from = starts[p] as usize;
-    let to = ends[p] as usize;
-    Run { from, to }
-}
-
-// The steps of luminance whose step deviation is at most some k.
-#[derive(Drop)]
-struct Span {
-    least: u64,
-    most: u64,
-}
-
+// The steps of luminance whose step deviation is at most k.
 fn span_of(k: u64, g: Luminance) -> Span
     requires { (k ≤ 1000 * 2 ^ 26) × (g.0 < 2 ^ 26) }
     ensures { IsSpan k g.0 result.least result.most }
 {
-    let step = g.0 as u64;
-    let wanted = 1000 * step;
-    let apart = k * step;
-    let most = (wanted + apart) / 1000;
-    if wanted < apart {
-        return Span { least: 0, most };
+    let step = u64::from(g.0);
+    let apart = k * step / 1000;
+    Span {
+        least: step.saturating_sub(apart),
+        most: step + apart,
     }
-    let least = (wanted - apart + 999) / 1000;
-    Span { least, most }
 }
 
-// Fills the rows before the last one, from the highest down, for a worst step of at most k; whether some allowed table has one.
-// The runs are those that the allowed error makes; it has no other part in this.
-fn fill_rows(
-    curve: &[u32],
-    targets: &[u32],
-    tolerance: u16,
-    starts: &[u16],
-    ends: &[u16],
-    k: u64,
-    work: &mut [u32],
-) -> bool
-    requires { RowsAsk (given curve.now targets.now tolerance) k starts.now ends.now work.old }
-    ensures { RowsFilled (given curve.now targets.now tolerance) k work.old work.new result }
-{
-    let last = targets.len() - 1;
-    let mut target = targets[last];
-    let highest = run_at(starts, ends, last);
-    let mut from = highest.from;
-    let mut to = highest.to;
-    let mut p = last;
-    while 0 < p {
-        let lower = p - 1;
-        let lower_target = targets[lower];
-        let run = run_at(starts, ends, lower);
-        let g = target - lower_target;
-        let span = span_of(k, Luminance(g));
-        let some = reach::fill_row(
-            curve,
-            work,
-            lower,
-            run,
-            Run { from, to },
-            span.least,
-            span.most,
-        );
-        if !some {
-            return false;
+impl Problem<'_> {
+    ghost use Rattle.even.specs.Problems.{given_of};
+    ghost use Rattle.even.specs.Even.{target_step};
+    ghost use Rattle.even.specs.Filled.{Room, EvenFilled};
+    ghost use Rattle.even.specs.Filling.{RunsAsk, RunsFound};
+
+    // The step that is wanted from p to the next P-value.
+    fn wanted_step(&self, p: usize) -> Luminance
+        requires { p + 1 < length self.now.targets.now }
+        ensures { result.0 ≡ target_step (given_of self.now) p }
+    {
+        Luminance(self.targets[p + 1] - self.targets[p])
+    }
+
+    // The run of a target, from that of a target that is not above it; none where no level is allowed.
+    fn run_up(&self, target: Luminance, run: Run) -> Option<Run>
+        requires small { target.0 < 2 ^ 26 }
+        requires not_above { NotAbove self.now.curve.now self.now.tolerance target.0 run.from run.to }
+        ensures { RunFound self.now.curve.now self.now.tolerance target.0 result }
+    {
+        let band = band_of(self.tolerance, target);
+        let from = rise_to(self.curve, band.dark, run.from);
+        let to = rise_to(self.curve, band.bright, run.to);
+        if to <= from {
+            return None;
         }
-        from = run.from;
-        to = run.to;
-        target = lower_target;
-        p = lower;
+        Some(Run { from, to })
     }
-    true
+
+    // Finds the run of each P-value, and the worst step of the table of the lowest allowed levels, which bounds that of the even table;
+    // or none, where some P-value has no allowed level.
+    fn find_runs(&self, starts: &mut [u16], ends: &mut [u16]) -> Option<u64>
+        requires { RunsAsk (given_of self.now) starts.old ends.old }
+        ensures { RunsFound (given_of self.now) starts.new ends.new result }
+    {
+        let targets = self.targets;
+        let mut run = self.run_up(Luminance(targets[0]), Run { from: 0, to: 0 })?;
+        starts[0] = run.from as u16;
+        ends[0] = run.to as u16;
+        let mut worst: u64 = 0;
+        // By place: each step is from one target to the next.
+        for p in 0..targets.len() - 1 {
+            let next = self.run_up(Luminance(targets[p + 1]), run)?;
+            let f = self.curve[next.from] - self.curve[run.from];
+            worst = worst.max(step_deviation(Luminance(f), self.wanted_step(p)));
+            starts[p + 1] = next.from as u16;
+            ends[p + 1] = next.to as u16;
+            run = next;
+        }
+        Some(worst)
+    }
+
+    // Fills the front of `table` with the even table and returns its worst step, in thousandths; or none, where no list of levels
+    // keeps within the allowed error, and changes neither table nor work.
+    // Works in the first 32 words for each target, whatever they hold. `starts` and `ends` are working space too, for the ends of the runs of allowed levels.
+    // No heap: the caller lends these and the words.
+    pub fn fill_table(
+        &self,
+        starts: &mut [u16],
+        ends: &mut [u16],
+        table: &mut [u16],
+        work: &mut [u32],
+    ) -> Option<u64>
+        requires { Room (given_of self.now) starts.old ends.old table.old work.old }
+        ensures { EvenFilled (given_of self.now) table.old table.new work.old work.new result }
+    {
+        let bound = self.find_runs(starts, ends)?;
+        let found = Found {
+            problem: *self,
+            starts,
+            ends,
+        };
+        Some(found.make_table(bound, table, work))
+    }
 }
 
-// The least worst step of all allowed tables, by halving what is left between 0 and a bound; the rows are filled for it.
-fn least_worst(
-    curve: &[u32],
-    targets: &[u32],
-    tolerance: u16,
-    starts: &[u16],
-    ends: &[u16],
-    bound: u64,
-    work: &mut [u32],
-) -> u64
-    requires { SearchAsks (given curve.now targets.now tolerance) bound starts.now ends.now work.old }
-    ensures { Searched (given curve.now targets.now tolerance) work.old work.new result }
-{
-    let mut low: u64 = 0;
-    let mut high = bound;
-    // Whether the rows are filled for `high`.
-    let mut ready = false;
-    while low < high {
-        let middle = low + (high - low) / 2;
-        ready = fill_rows(curve, targets, tolerance, starts, ends, middle, work);
-        if ready {
-            high = middle;
-        } else {
-            low = middle + 1;
+impl Found<'_> {
+    ghost use Rattle.even.specs.Problems.{given_of};
+    ghost use Rattle.even.specs.Runs.{run_of};
+    ghost use Rattle.even.specs.Filling.{RowsAsk, RowsFilled, SearchAsks, Searched, WriteAsks, lowest_within, MakeAsks, Made};
+
+    // The run of P-value p.
+    fn run_at(&self, p: usize) -> Run
+        requires { p < length self.now.problem.targets.now }
+        ensures { result ≡ run_of (given_of self.now.problem) p }
+    {
+        Run {
+            from: self.starts[p] as usize,
+            to: self.ends[p] as usize,
         }
     }
-    if !ready {
-        fill_rows(curve, targets, tolerance, starts, ends, low, work);
-    }
-    low
-}
 
-fn later(a: usize, b: usize) -> usize
-    ensures { result ≡ max a b }
-{
-    if a < b {
-        return b;
-    }
-    a
-}
-
-// Writes the table: at each P-value the lowest level that is lit and whose step from the level before fits. The runs are those that the allowed error makes.
-fn write_table(
-    curve: &[u32],
-    targets: &[u32],
-    tolerance: u16,
-    starts: &[u16],
-    ends: &[u16],
-    k: u64,
-    work: &[u32],
-    table: &mut [u16],
-)
-    requires { WriteAsks (given curve.now targets.now tolerance) k starts.now ends.now work.now table.old }
-    ensures { table.new ≡ lowest_within (given curve.now targets.now tolerance) k ++ drop (length targets.now) table.old }
-{
-    let last = targets.len() - 1;
-    let mut target = targets[0];
-    let first = run_at(starts, ends, 0);
-    let mut d = reach::first_lit(curve, work, 0, first.to, first.from, 0);
-    let mut p: usize = 0;
-    while p < last {
-        table[p] = d as u16;
-        let next = p + 1;
-        let next_target = targets[next];
-        let run = run_at(starts, ends, next);
-        let g = next_target - target;
-        let span = span_of(k, Luminance(g));
-        let least = curve[d] as u64 + span.least;
-        let start = later(d, run.from);
-        d = reach::first_lit(curve, work, next, run.to, start, least);
-        target = next_target;
-        p = next;
-    }
-    table[p] = d as u16;
-}
-
-// The even table of curve and targets of which some table is allowed, its runs found; its worst step.
-fn make_table(
-    curve: &[u32],
-    targets: &[u32],
-    tolerance: u16,
-    starts: &[u16],
-    ends: &[u16],
-    bound: u64,
-    table: &mut [u16],
-    work: &mut [u32],
-) -> u64
-    requires { MakeAsks (given curve.now targets.now tolerance) bound starts.now ends.now table.old work.old }
-    ensures { Made (given curve.now targets.now tolerance) table.old table.new work.old work.new result }
-{
-    let last = targets.len() - 1;
-    let run = run_at(starts, ends, last);
-    reach::light_run(work, last, run);
-    let worst = least_worst(curve, targets, tolerance, starts, ends, bound, work);
-    write_table(curve, targets, tolerance, starts, ends, worst, work, table);
-    worst
-}
-
-// Fills the front of `table` with the even table and returns its worst step, or finds that there is none and changes neither table nor work.
-// Works in the first 32 words for each target, whatever they hold. `starts` and `ends` are working space too, for the ends of the runs of allowed levels.
-pub fn fill_table(
-    curve: &[u32],
-    targets: &[u32],
-    tolerance: u16,
-    starts: &mut [u16],
-    ends: &mut [u16],
-    table: &mut [u16],
-    work: &mut [u32],
-) -> Outcome
-    requires { FillAsks (given curve.now targets.now tolerance) starts.old ends.old table.old work.old }
-    ensures { EvenFilled (given curve.now targets.now tolerance) table.old table.new work.old work.new result }
-{
-    let found = find_runs(curve, targets, tolerance, starts, ends);
-    match found {
-        Outcome::NoTable => Outcome::NoTable,
-        Outcome::Table(bound) => {
-            let worst = make_table(curve, targets, tolerance, starts, ends, bound, table, work);
-            Outcome::Table(worst)
+    // Fills the rows before the last one, from the highest down, for a worst step of at most k; whether some allowed table has one.
+    fn fill_rows(&self, k: u64, work: &mut [u32]) -> bool
+        requires { RowsAsk (given_of self.now.problem) k work.old }
+        ensures { RowsFilled (given_of self.now.problem) k work.old work.new result }
+    {
+        let curve = self.problem.curve;
+        // By place: a row is filled from the next one.
+        for p in (0..self.problem.targets.len() - 1).rev() {
+            let span = span_of(k, self.problem.wanted_step(p));
+            if !reach::fill_row(curve, work, p, self.run_at(p), self.run_at(p + 1), span) {
+                return false;
+            }
         }
+        true
+    }
+
+    // The least worst step of all allowed tables, by halving what is left between 0 and a bound; the rows are filled for it.
+    fn least_worst(&self, bound: u64, work: &mut [u32]) -> u64
+        requires { SearchAsks (given_of self.now.problem) bound work.old }
+        ensures { Searched (given_of self.now.problem) work.old work.new result }
+    {
+        // By hand: std's partition_point searches a slice, and this halves a range of numbers.
+        let mut low: u64 = 0;
+        let mut high = bound;
+        // Whether the rows are filled for `high`.
+        let mut ready = false;
+        while low < high {
+            let middle = low + (high - low) / 2;
+            ready = self.fill_rows(middle, work);
+            if ready {
+                high = middle;
+            } else {
+                low = middle + 1;
+            }
+        }
+        if !ready {
+            self.fill_rows(low, work);
+        }
+        low
+    }
+
+    // Writes the table: at each P-value the lowest level that is lit and whose step from the level before fits.
+    fn write_table(&self, k: u64, work: &[u32], table: &mut [u16])
+        requires { WriteAsks (given_of self.now.problem) k work.now table.old }
+        ensures { table.new ≡ lowest_within (given_of self.now.problem) k ++ drop (length self.now.problem.targets.now) table.old }
+    {
+        let curve = self.problem.curve;
+        let mut d = reach::first_lit(curve, work, 0, self.run_at(0), 0).unwrap();
+        table[0] = d as u16;
+        // By place: each level is found from the one before it.
+        for p in 0..self.problem.targets.len() - 1 {
+            let least = u64::from(curve[d]) + span_of(k, self.problem.wanted_step(p)).least;
+            let run = self.run_at(p + 1);
+            let left = Run {
+                from: d.max(run.from),
+                to: run.to,
+            };
+            d = reach::first_lit(curve, work, p + 1, left, least).unwrap();
+            table[p + 1] = d as u16;
+        }
+    }
+
+    // Fills the front of the table with the even table; its worst step.
+    fn make_table(&self, bound: u64, table: &mut [u16], work: &mut [u32]) -> u64
+        requires { MakeAsks (given_of self.now.problem) bound table.old work.old }
+        ensures { Made (given_of self.now.problem) table.old table.new work.old work.new result }
+    {
+        let last = self.problem.targets.len() - 1;
+        reach::light_run(work, last, self.run_at(last));
+        let worst = self.least_worst(bound, work);
+        self.write_table(worst, work, table);
+        worst
     }
 }

@@ -1,30 +1,29 @@
-// The even table of any curve and targets through the C ABI, on bare numbers: for the comparison by running and for the benchmark.
+// The even table of any curve and any targets through the C ABI, on bare numbers: for the comparison by running and for the benchmark.
 #![tactic(auto)]
 
 ghost use Rattle.std.specs.Prelude.{◌≡◌};
 ghost use Rattle.even.specs.Filled.{given, FillAsks};
 ghost use Rattle.even_values.specs.Values.{numbers_of, ValuesFilled};
 
-use even::Outcome;
+use even::Problem;
 
 #[repr(C)]
-#[derive(Drop)]
+#[derive(Clone, Copy)]
 pub struct EvenNumbers {
-    // 1 where the table was made, 0 where there is none.
+    // 1 where the table was made, 0 where there is none. C has no Option: a mark stands beside the value.
     pub made: u32,
     // Its worst step, or 0.
     pub worst: u64,
 }
 
-fn numbers_of(outcome: Outcome) -> EvenNumbers
-    ensures { result ≡ numbers_of outcome }
-{
-    match outcome {
-        Outcome::Table(found) => EvenNumbers {
-            made: 1,
-            worst: found,
-        },
-        Outcome::NoTable => EvenNumbers { made: 0, worst: 0 },
+impl From<Option<u64>> for EvenNumbers {
+    ghost from_gives = { λ worst r. r ≡ numbers_of worst };
+
+    fn from(worst: Option<u64>) -> EvenNumbers {
+        match worst {
+            Some(worst) => EvenNumbers { made: 1, worst },
+            None => EvenNumbers { made: 0, worst: 0 },
+        }
     }
 }
 
@@ -41,6 +40,10 @@ pub extern "C" fn even_fill(
     requires { FillAsks (given curve.now targets.now tolerance) starts.old ends.old table.old work.old }
     ensures { ValuesFilled (given curve.now targets.now tolerance) table.old table.new work.old work.new result }
 {
-    let outcome = even::fill_table(curve, targets, tolerance, starts, ends, table, work);
-    numbers_of(outcome)
+    let problem = Problem {
+        curve,
+        targets,
+        tolerance,
+    };
+    EvenNumbers::from(problem.fill_table(starts, ends, table, work))
 }

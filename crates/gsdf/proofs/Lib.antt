@@ -1,4 +1,4 @@
--- `TableRule`: the rule of Table B-1. `Unrounded`: the display function before its rounding. `Laws`: what the crates above use of it. `Halving`: the search for a JND. `Ends`: a luminance against the ends of the table.
+-- `TableRule`: the rule of Table B-1. `Unrounded`: the display function before its rounding. `Laws`: what the crates above use of it. `Reached`: the last JND at or below a luminance. `Ends`: a luminance against the ends of the table.
 pub mod TableRule
 pub mod Unrounded
 pub mod Laws

@@ -1,8 +1,6 @@
 -- The marked examples of document 01 for the nearest level.
 -- Assumes nothing.
-use Prim.Native.Nat.{ℕ}
-use mathlib.Core.Path.{◌≡◌, refl}
-use mathlib.Core.List.{List, [], ◌∷◌}
+use Rattle.std.proofs.Common.{ℕ, ◌≡◌, refl, List, [], ◌∷◌}
 use Rattle.laws.specs.Search.{any, lowest}
 use Rattle.nearest.specs.Nearest.{nearest_level}
 

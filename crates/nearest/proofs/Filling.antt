@@ -1,59 +1,67 @@
 -- The table filled entry by entry, with the largest error so far.
 -- Assumes nothing.
-use mathlib.Core.Path.{◌≡◌, refl, sym, ap, ◌∙◌}
-use mathlib.Core.List.{List, ◌++◌}
-use Prim.Native.Nat.{ℕ, ◌+◌, max, ◌≤◌, ◌<◌}
-use native.Mathlib.Omega.{arith}
-use lib.ListN.{length, get_or, drop, set}
-use lib.Seq.{length_front, length-take-le}
+use Rattle.std.proofs.Common.{◌≡◌, refl, sym, ap, subst, ◌∙◌, List, ◌++◌, ℕ, ◌+◌, max, ◌≤◌, ◌<◌, le_refl, arith, length, get_or, drop, set}
+use Rattle.std.proofs.Math.Seq.{length_front, length-take-le}
 use Rattle.laws.specs.Fill.{tab}
 use Rattle.laws.specs.Numbers.{max_of}
 use Rattle.laws.proofs.Fill.{length_tab, fill}
-use Rattle.laws.proofs.Numbers.{max_next}
+use Rattle.laws.proofs.Numbers.{max_next, max_same}
 use Rattle.nearest.specs.Nearest.{error_at, nearest_level, nearest_table, largest_error, Fillable, Filled}
 use Rattle.nearest.specs.Places.{NotPast, EntryOf}
-use Rattle.nearest.proofs.Numbers.{max_same}
+use Rattle.nearest.specs.declared.Place.{Place}
+use Rattle.nearest.specs.declared.Entry.{Entry}
 use Rattle.nearest.proofs.Laws.{table_at}
-use Rattle.nearest.proofs.Places.{at_start, not_past_later}
+use Rattle.nearest.proofs.Places.{not_past_later}
 
 -- the entry at p, and its error
-abbrev entry : (curve targets : List ℕ) (p : ℕ) → ℕ
-entry curve targets p = nearest_level curve (get_or targets p 0)
+abbrev entry_at : (curve targets : List ℕ) (p : ℕ) → ℕ
+entry_at curve targets p = nearest_level curve (get_or targets p 0)
 
 abbrev entry_error : (curve targets : List ℕ) (p : ℕ) → ℕ
-entry_error curve targets p = error_at curve (get_or targets p 0) (entry curve targets p)
+entry_error curve targets p = error_at curve (get_or targets p 0) (entry_at curve targets p)
 
 -- the first p entries are filled, and the place is not past any later target
-pub record Filling (curve targets before table : List ℕ) (largest below dark above p : ℕ) : Type 0 where
+pub record Filling (curve targets before table : List ℕ) (largest : ℕ) (place : Place) (p : ℕ) : Type 0 where
   pub inside : p ≤ length targets
-  pub table_is : table ≡ tab (entry curve targets) p ++ drop p before
+  pub of_curve : place.curve.now ≡ curve
+  pub table_is : table ≡ tab (entry_at curve targets) p ++ drop p before
   pub largest_is : largest ≡ max_of (entry_error curve targets) p
-  pub ahead : (q : ℕ) → p ≤ q → q < length targets → NotPast curve (get_or targets q 0) below dark above
+  pub ahead : (q : ℕ) → p ≤ q → q < length targets → NotPast curve (get_or targets q 0) place
 
-pub filling_none : (curve targets before : List ℕ) → Filling curve targets before before 0 0 (get_or curve 0 0) 0 0
+pub filling_none : (curve targets before : List ℕ) {place : Place} → (place.curve.now ≡ curve) × ((t : ℕ) → NotPast curve t place)
+    → Filling curve targets before before 0 place 0
 unfolding tab max_of
-filling_none curve targets before = record {
+filling_none curve targets before start = record {
   inside = omega arith;
+  of_curve = start.0;
   table_is = refl;
   largest_is = refl;
-  ahead = λ q a b. at_start curve (get_or targets q 0);
+  ahead = λ q a b. start.1 (get_or targets q 0);
 }
 
-module _ {curve targets before table : List ℕ} {largest below dark above p : ℕ} (h : Filling curve targets before table largest below dark above p)
+module _ {curve targets before table : List ℕ} {largest : ℕ} {place : Place} {p : ℕ} (h : Filling curve targets before table largest place p)
     (asked : Fillable curve targets before) where
   pub filling_length : length table ≡ length before
   filling_length =
       ap length h.table_is
-      ∙ length_front before (tab (entry curve targets) p) p (length_tab (entry curve targets) p ∙ sym (length-take-le p before (omega arith)))
+      ∙ length_front before (tab (entry_at curve targets) p) p (length_tab (entry_at curve targets) p ∙ sym (length-take-le p before (omega arith)))
 
-  pub filling_more : {level error below' dark' above' : ℕ} → p < length targets → EntryOf curve (get_or targets p 0) level error below' dark' above'
-      → (largest' : ℕ) → largest' ≡ max largest error → Filling curve targets before (set table p level) largest' below' dark' above' (p + 1)
-  filling_more more m largest' e = record {
-    inside = omega arith;
-    table_is = rw (h.table_is, m.level_is) (fill (entry curve targets) before p (omega arith));
-    largest_is = e ∙ rw (h.largest_is, m.error_is, m.level_is) (sym (max_next (entry_error curve targets) p));
-    ahead = λ q a b. not_past_later m.not_past (get_or targets q 0) (asked.targets_keep.keeps p q (omega arith) b);
-  }
+  pub not_past_next : p < length targets → NotPast place.curve.now (get_or targets p 0) place
+  not_past_next l = subst (λ (c : List ℕ). NotPast c (get_or targets p 0) place) (sym h.of_curve) (h.ahead p (le_refl p) l)
+
+  pub filling_more : {entry : Entry} {next : Place} → p < length targets → next.curve.now ≡ place.curve.now → NotPast place.curve.now (get_or targets p 0) next
+      → EntryOf next.curve.now (get_or targets p 0) entry
+      → (largest' : ℕ) → largest' ≡ max largest entry.error.0 → Filling curve targets before (set table p entry.level.0) largest' next (p + 1)
+  filling_more {entry} {next} more o n m largest' e =
+      let n : NotPast curve (get_or targets p 0) next = subst (λ (c : List ℕ). NotPast c (get_or targets p 0) next) h.of_curve n in
+      let m : EntryOf curve (get_or targets p 0) entry = subst (λ (c : List ℕ). EntryOf c (get_or targets p 0) entry) (o ∙ h.of_curve) m in
+      record {
+        inside = omega arith;
+        of_curve = o ∙ h.of_curve;
+        table_is = rw (h.table_is, m.level_is) (fill (entry_at curve targets) before p (omega arith));
+        largest_is = e ∙ rw (h.largest_is, m.error_is, m.level_is) (sym (max_next (entry_error curve targets) p));
+        ahead = λ q a b. not_past_later n (get_or targets q 0) (asked.targets_keep.keeps p q (omega arith) b);
+      }
 
   pub filling_all : length targets ≤ p → Filled curve targets before table largest
   unfolding nearest_table largest_error

@@ -1,13 +1,7 @@
 -- The laws of the nearest level and of the nearest table.
 -- Assumes nothing.
-use mathlib.Core.Path.{◌≡◌, sym}
-use mathlib.Core.List.{List}
-use mathlib.Core.Bool.{not}
-use mathlib.Core.Logic.{⊎_elim}
-use Prim.Native.Nat.{ℕ, suc, ◌-◌, ◌≤◌, ◌<◌}
-use native.Mathlib.Omega.{arith}
-use lib.ListN.{length, get_or}
-use mir.Facts.{T_not, ltb_yes, yes_ltb, clash}
+use Rattle.std.proofs.Common.{◌≡◌, sym, List, not, ⊎_elim, ℕ, suc, ◌-◌, ◌≤◌, ◌<◌, arith, length, get_or}
+use Rattle.std.proofs.Math.Facts.{T_not, ltb_yes, yes_ltb, clash}
 use Rattle.laws.specs.Search.{any}
 use Rattle.laws.specs.Rises.{NeverFalls}
 use Rattle.laws.proofs.Cases.{no_is, le_or_lt}

@@ -1,13 +1,7 @@
--- Distances to a number, the lowest place of a function's least value, and the largest of equal numbers: they belong to no layer.
+-- Distances to a number, and the lowest place of a function's least value: they belong to no layer.
 -- Assumes nothing.
-use mathlib.Core.Path.{◌≡◌, refl}
-use mathlib.Core.Logic.{⊎_elim}
-use Prim.Native.Nat.{ℕ, zero, suc, ◌+◌, ◌≤◌, ◌<◌}
-use native.Mathlib.Nat.{le_refl}
-use native.Mathlib.Numerals.{add-one}
-use native.Mathlib.Omega.{arith}
-use borrow.Author.Count.{below_none, below_more}
-use Rattle.laws.specs.Numbers.{distance, max_of}
+use Rattle.std.proofs.Common.{⊎_elim, ℕ, zero, suc, ◌+◌, ◌≤◌, ◌<◌, le_refl, add-one, arith, below_none, below_more}
+use Rattle.laws.specs.Numbers.{distance}
 use Rattle.laws.proofs.Cases.{le_or_lt}
 
 -- where the higher of two numbers is nearer to t, t is past their middle
@@ -62,10 +56,3 @@ some_least f (suc n) =
     (λ l. record { at = s.at; is = least_kept s.is l })
     (λ l. record { at = suc n; is = least_moved s.is l })
     (le_or_lt (f s.at) (f (suc n))))
-
--- ---- the largest of equal numbers
-
-pub max_same : (f g : ℕ → ℕ) (n : ℕ) → ((i : ℕ) → i < n → f i ≡ g i) → max_of f n ≡ max_of g n
-unfolding max_of
-max_same f g zero h = refl
-max_same f g (suc n) h = rw (max_same f g n (λ i l. h i (omega arith)), h n (omega arith)) refl

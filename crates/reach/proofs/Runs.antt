@@ -7,19 +7,15 @@ use mathlib.Core.List.{List}
 use Prim.Native.Nat.{ℕ, ◌+◌, ◌*◌, ◌≤◌, ◌<◌}
 use native.Mathlib.Omega.{arith}
 use lib.ListN.{length}
-use mir.Facts.{clash}
 use Rattle.reach.specs.Bits.{bit_at, marked}
 use Rattle.reach.specs.Rows.{lit, RowKept, RowThere, RunLit}
 use Rattle.reach.proofs.Bits.{same_or_not, marked_here, marked_other}
-use Rattle.reach.proofs.Rows.{in_run, all_in_run, kept_none, kept_mark}
+use Rattle.reach.proofs.Rows.{in_run, all_in_run, kept_mark}
 
 -- the run's levels below d are lit
 pub record Lighting (before words : List ℕ) (p from d : ℕ) : Type 0 where
   pub kept : RowKept before words p
   pub set : (e : ℕ) → from ≤ e → e < d → bit_at words (p * 1024 + e) ≡ true
-
-pub lighting_none : (words : List ℕ) (p from : ℕ) → Lighting words words p from from
-lighting_none words p from = record { kept = kept_none words p; set = λ e l h. clash h l }
 
 module _ {before words : List ℕ} {p from d : ℕ} (h : Lighting before words p from d) where
   pub lighting_more : {to : ℕ} → RowThere before p to → d < to → Lighting before (marked words (p * 1024 + d)) p from (d + 1)

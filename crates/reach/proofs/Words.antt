@@ -12,9 +12,10 @@ use lib.ListN.{get_or}
 use lib.Bits.{bit_or}
 use mir.Facts.{clash}
 use borrow.Author.Tests.{le-leb, lt-ltb, le-ltb}
+use Rattle.laws.specs.Rises.{NeverFalls}
 use Rattle.laws.proofs.Cases.{le_or_lt}
 use Rattle.reach.specs.Bits.{digit}
-use Rattle.reach.specs.Rows.{lit, reaches, RowThere, First, RowAsks}
+use Rattle.reach.specs.Rows.{lit, reaches, First, RowAsks}
 use Rattle.reach.specs.Words.{InWord, Skipped, level_of, WordFilled}
 use Rattle.reach.proofs.Bits.{same_or_not, set_here, set_other, zero_digit}
 use Rattle.reach.proofs.Rows.{none_in_run, lit_is, is_lit}
@@ -32,29 +33,26 @@ ltb_next d e x h =
     (le_or_lt d e))
     (same_or_not e d)
 
--- the next row is there
-pub asks_next : {curve words : List ℕ} {p to next_to least most : ℕ} → RowAsks curve words p to next_to least most → RowThere words (p + 1) next_to
-asks_next asks = record { few = omega arith; inside = omega arith; levels = omega arith }
-
 -- the levels from `from` to d − 1 are in the word, and q is where the search for d goes on
 pub record Gathering (curve words : List ℕ) (p from to next_from next_to least most bits d q : ℕ) : Type 0 where
   pub low : from ≤ d
-  pub high : d ≤ to
-  pub filled : WordFilled curve words p from d next_from next_to least most bits q
+  pub high : d ≤ max from to
+  pub here : (k : ℕ) → eqb (digit bits k) 1
+      ≡ (leb from (level_of from k) && (ltb (level_of from k) d && reaches curve (lit words (p + 1) next_from next_to) least most (level_of from k)))
+  pub after : next_from ≤ q
+  pub skipped : Skipped curve (lit words (p + 1) next_from next_to) least d q
 
 -- no level is in it yet
-pub gathering_none : (curve words : List ℕ) (p from to next_from next_to least most : ℕ) → from ≤ to
+pub gathering_none : (curve words : List ℕ) (p from to next_from next_to least most : ℕ)
     → Gathering curve words p from to next_from next_to least most 0 from next_from
-gathering_none curve words p from to next_from next_to least most h = record {
+gathering_none curve words p from to next_from next_to least most = record {
   low = le_refl from;
-  high = h;
-  filled = record {
-    here = λ k.
-        ap (λ (x : ℕ). eqb x 1) (zero_digit k)
-        ∙ sym (none_in_run from from (level_of from k) _ (le_refl from));
-    after = le_refl next_from;
-    skipped = record { dim = λ e l u i on. clash u (lit_is words (p + 1) next_from next_to e on).low };
-  };
+  high = omega arith;
+  here = λ k.
+      ap (λ (x : ℕ). eqb x 1) (zero_digit k)
+      ∙ sym (none_in_run from from (level_of from k) _ (le_refl from));
+  after = le_refl next_from;
+  skipped = record { dim = λ e l u i on. clash u (lit_is words (p + 1) next_from next_to e on).low };
 }
 
 module _ {curve words : List ℕ} {p from to next_from next_to least most bits d q : ℕ}
@@ -68,7 +66,7 @@ module _ {curve words : List ℕ} {p from to next_from next_to least most bits d
       dim = λ e l u i on.
           ⊎_elim
           (λ (a : q ≤ e). first.skipped e (omega arith) u (lit_is words (p + 1) next_from next_to e on).bit)
-          (λ (a : e < q). h.filled.skipped.dim e l a i on)
+          (λ (a : e < q). h.skipped.dim e l a i on)
           (le_or_lt q e);
     }
 
@@ -79,17 +77,15 @@ module _ {curve words : List ℕ} {p from to next_from next_to least most bits d
     next more here = record {
       low = omega arith;
       high = omega arith;
-      filled = record {
-        here = here;
-        after = omega (arith, h.filled.after, first.after);
-        skipped = skipped_next curve _ least most d asks.never_falls passed (d + 1) (omega arith);
-      };
+      here = here;
+      after = omega (arith, h.after, first.after);
+      skipped = skipped_next curve _ least most d asks.never_falls passed (d + 1) (omega arith);
     }
 
     -- level d does not reach the next row where the level found, if any, is too bright
     pub gathering_skip : (r < next_to → get_or curve d 0 + most < get_or curve r 0) → Gathering curve words p from to next_from next_to least most bits (d + 1) r
     gathering_skip far =
-        next bits (λ k. h.filled.here k ∙ ap (λ (b : Bool). leb from (level_of from k) && b) (ltb_next d (level_of from k) _ (λ s. rw s none)))
+        next bits (λ k. h.here k ∙ ap (λ (b : Bool). leb from (level_of from k) && b) (ltb_next d (level_of from k) _ (λ s. rw s none)))
       where
         none : reaches curve (lit words (p + 1) next_from next_to) least most d ≡ false
         none =
@@ -106,22 +102,57 @@ module _ {curve words : List ℕ} {p from to next_from next_to least most bits d
         (λ s. rw (s, set_here bits (d % 32), level, le-leb from d h.low, lt-ltb d (d + 1) (omega arith), some_way) refl)
         (λ other.
         ap (λ (x : ℕ). eqb x 1) (set_other bits (d % 32) k other)
-        ∙ h.filled.here k ∙ ap (λ (b : Bool). leb from (level_of from k) && b) (ltb_next d (level_of from k) _ (λ s. absurd (other (omega arith)))))
+        ∙ h.here k ∙ ap (λ (b : Bool). leb from (level_of from k) && b) (ltb_next d (level_of from k) _ (λ s. absurd (other (omega arith)))))
         (same_or_not k (d % 32)))
       where
         level : level_of from (d % 32) ≡ d
         level = omega arith
 
         on : lit words (p + 1) next_from next_to r ≡ true
-        on = is_lit words (p + 1) next_from next_to r record { low = omega (arith, h.filled.after, first.after); high = l; bit = first.set l }
+        on = is_lit words (p + 1) next_from next_to r record { low = omega (arith, h.after, first.after); high = l; bit = first.set l }
 
         some_way : reaches curve (lit words (p + 1) next_from next_to) least most d ≡ true
         some_way =
             reaches_by curve _ least most d r
             record { low = omega (arith, first.after); inside = omega (arith, asks.next); on = on; enough = first.enough l; near = near }
 
+  -- no level of the next row is left for d and the levels after it
+  pub gathering_end : NeverFalls curve → d < to → next_to ≤ max q d → WordFilled curve words p from to next_from next_to least most bits q
+  gathering_end never inside l = record {
+    here = λ k. h.here k ∙ same (level_of from k);
+    after = h.after;
+    skipped = skipped_next curve _ least most d never h.skipped (max from to) (omega arith);
+  }
+    where
+      passed : Skipped curve (lit words (p + 1) next_from next_to) least d next_to
+      passed = record { dim = λ e m u i on. h.skipped.dim e m (omega arith) i on }
+
+      none : (e : ℕ) → d ≤ e → reaches curve (lit words (p + 1) next_from next_to) least most e ≡ false
+      none e m =
+          none_past curve _ least most e never (skipped_next curve _ least most d never passed e m) next_to
+          (λ i on. (lit_is words (p + 1) next_from next_to i on).high) (λ u. clash u (le_refl next_to))
+
+      same : (e : ℕ) → (leb from e && (ltb e d && reaches curve (lit words (p + 1) next_from next_to) least most e))
+          ≡ (leb from e && (ltb e to && reaches curve (lit words (p + 1) next_from next_to) least most e))
+      same e =
+          ap (λ (b : Bool). leb from e && b)
+          (⊎_elim
+          (λ (a : d ≤ e). rw (none e a, and-false (ltb e d)) (sym (and-false (ltb e to))))
+          (λ (a : e < d). rw (lt-ltb e d a, lt-ltb e to (omega arith)) refl)
+          (le_or_lt d e))
+
   -- all levels are in it
   pub gathering_all : to ≤ d → WordFilled curve words p from to next_from next_to least most bits q
-  gathering_all l =
-      let e : d ≡ to = omega arith in
-      rw e at h.filled
+  gathering_all l = record {
+    here = λ k. h.here k ∙ same (level_of from k) _;
+    after = h.after;
+    skipped =
+        let e : d ≡ max from to = omega (arith, h.low, h.high) in
+        rw e at h.skipped;
+  }
+    where
+      same : (e : ℕ) (x : Bool) → (leb from e && (ltb e d && x)) ≡ (leb from e && (ltb e to && x))
+      same e x =
+          ⊎_elim (λ (a : from ≤ to). let s : d ≡ to = omega (arith, h.high) in rw s refl)
+          (λ (a : to < from). let s : d ≡ from = omega (arith, h.low, h.high) in rw s (none_in_run from from e x (le_refl from)) ∙ sym (none_in_run from to e x (omega arith)))
+          (le_or_lt from to)

@@ -1,6 +1,6 @@
 -- Rows of 1,024 bits, a bit for each drive level: the row of p is words 32p to 32p + 31.
 -- A row has a run, the levels `from` to `to` − 1; only their bits count.
-use Rattle.std.specs.Prelude.{ℕ, ◌+◌, ◌*◌, ◌^◌, max, ◌≤◌, ◌<◌, ◌≡◌, ◌⊎◌, Bool, true, ◌&&◌, List, leb, ltb, length, get_or}
+use Rattle.std.specs.Prelude.{ℕ, ◌+◌, ◌*◌, ◌^◌, max, ◌≤◌, ◌<◌, ◌≡◌, ◌⊎◌, Bool, true, ◌&&◌, List, Option, Some, None, leb, ltb, length, get_or}
 use Rattle.laws.specs.Search.{any}
 use Rattle.laws.specs.Rises.{NeverFalls}
 use Rattle.reach.specs.Bits.{bit_at}
@@ -41,6 +41,11 @@ pub record First (curve words : List ℕ) (p to from least r : ℕ) : Type 0 whe
   pub skipped : (q : ℕ) → from ≤ q → q < r → bit_at words (p * 1024 + q) ≡ true → get_or curve q 0 < least
   pub set : r < to → bit_at words (p * 1024 + r) ≡ true
   pub enough : r < to → least ≤ get_or curve r 0
+
+-- what a search of the levels `from` to `to` − 1 finds: that level, below `to`, or that there is none
+abbrev pub FindsFirst : (curve words : List ℕ) (p to from least : ℕ) → Option ℕ → Type 0
+FindsFirst curve words p to from least (Some r) = (r < to) × First curve words p to from least r
+FindsFirst curve words p to from least None = First curve words p to from least (max from to)
 
 -- what filling row p from the next one asks
 pub record RowAsks (curve words : List ℕ) (p to next_to least most : ℕ) : Type 0 where

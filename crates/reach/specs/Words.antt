@@ -1,19 +1,11 @@
--- What the search for one level finds, and one word of a row, for a run whose levels lie in it.
-use Rattle.std.specs.Prelude.{ℕ, ◌+◌, ◌*◌, ◌/◌, ◌≤◌, ◌<◌, ◌≡◌, Bool, true, false, ◌&&◌, List, leb, ltb, eqb, length, get_or}
+-- One word of a row, for a run whose levels lie in it.
+use Rattle.std.specs.Prelude.{ℕ, ◌+◌, ◌*◌, ◌/◌, max, ◌≤◌, ◌<◌, ◌≡◌, Bool, true, ◌&&◌, List, leb, ltb, eqb, length, get_or}
 use Rattle.reach.specs.Bits.{digit}
-use Rattle.reach.specs.Rows.{lit, reaches, First}
-
--- r is the first level as `First` says, and `fits` tells whether there is one and its luminance is at most `most`
-pub record FoundFirst (curve words : List ℕ) (p to from least most r : ℕ) (fits : Bool) : Type 0 where
-  pub first : First curve words p to from least r
-  pub inside : fits ≡ true → r < to
-  pub near : fits ≡ true → get_or curve r 0 ≤ most
-  pub far : fits ≡ false → r < to → most < get_or curve r 0
+use Rattle.reach.specs.Rows.{lit, reaches}
 
 -- the levels `from` to `to` − 1 lie in one word
-pub record InWord (from to : ℕ) : Type 0 where
-  pub low : from ≤ to
-  pub high : to ≤ from / 32 * 32 + 32
+abbrev pub InWord : (from to : ℕ) → Type 0
+InWord from to = to ≤ from / 32 * 32 + 32
 
 -- no level of the next row from d to q − 1 is bright enough for a step from d
 pub record Skipped (curve : List ℕ) (next : ℕ → Bool) (least d q : ℕ) : Type 0 where
@@ -24,9 +16,9 @@ abbrev pub level_of : (d k : ℕ) → ℕ
 level_of d k = d / 32 * 32 + k
 
 -- `bits` is the word of row p that holds the levels `from` to `to` − 1: a bit is set where its level is one of them and reaches the next row.
--- The search for level `to` goes on at q
+-- The search for the levels after them goes on at q
 pub record WordFilled (curve words : List ℕ) (p from to next_from next_to least most bits q : ℕ) : Type 0 where
   pub here : (k : ℕ) → eqb (digit bits k) 1
       ≡ (leb from (level_of from k) && (ltb (level_of from k) to && reaches curve (lit words (p + 1) next_from next_to) least most (level_of from k)))
   pub after : next_from ≤ q
-  pub skipped : Skipped curve (lit words (p + 1) next_from next_to) least to q
+  pub skipped : Skipped curve (lit words (p + 1) next_from next_to) least (max from to) q

@@ -1,44 +1,55 @@
 -- What reading one section finds.
 -- Assumes nothing.
-use Prim.Native.Nat.{ℕ, ◌+◌, ◌*◌, ◌≤◌, ◌<◌}
+use Prim.Native.Nat.{ℕ, ◌+◌, ◌-◌, ◌*◌, ◌≤◌, ◌<◌}
 use mathlib.Core.Path.{◌≡◌, sym}
 use mathlib.Core.List.{List}
 use mathlib.Core.Bool.{true, false, false≢true}
-use lib.ListN.{length, drop, length-drop}
+use lib.ListN.{length, take, drop, length-drop}
+use lib.Seq.{take_all}
 use lib.Dec.{ltb, leb, eqb}
 use native.Mathlib.Nat.{mul-le-mul}
 use native.Mathlib.Omega.{arith}
 use borrow.Author.Tests.{le-ltb, lt-ltb, ltb-false, leb-true, eqb-true}
+use Rattle.std.specs.Prelude.{Ok, Err}
 use Rattle.laws.proofs.Cases.{by}
 use Rattle.record.specs.Bytes.{word}
 use Rattle.record.specs.Sections.{permitted, width, count_of}
 use Rattle.record.specs.declared.Section.{Section}
 use Rattle.record.specs.declared.Section.TheVariants.{Settings, Lamps, Sweep, Check}
-use Rattle.record.specs.declared.SectionCount.TheVariants.{Items, Fault}
 use Rattle.record.specs.declared.Refusal.TheVariants.{RecordTooShort, CountNotPermitted}
 
 -- ---- by the tests that the code makes
 
-pub count_none : (k : Section) (s : List ℕ) → length s < 2 → Fault RecordTooShort ≡ count_of k s
+pub count_none : (k : Section) (s : List ℕ) → length s < 2 → Err RecordTooShort ≡ count_of k s
 unfolding count_of
 count_none k s h = simp (lt-ltb _ _ h)
 
 module _ (k : Section) (s : List ℕ) (n w : ℕ) (h : 2 ≤ length s) (e : n ≡ word 0 s) (f : w ≡ width k) where
-  pub count_items : permitted k n ≡ true → 2 + n * w ≤ length s → Items n ≡ count_of k s
+  pub count_items : permitted k n ≡ true → 2 + n * w ≤ length s → Ok n ≡ count_of k s
   unfolding count_of
   count_items p q = simp (le-ltb _ _ h, ← e, p, ← f, le-ltb _ _ q)
 
-  pub count_short : permitted k n ≡ true → length s < 2 + n * w → Fault RecordTooShort ≡ count_of k s
+  pub count_short : permitted k n ≡ true → length s < 2 + n * w → Err RecordTooShort ≡ count_of k s
   unfolding count_of
   count_short p q = simp (le-ltb _ _ h, ← e, p, ← f, lt-ltb _ _ q)
 
-pub count_barred : (k : Section) (s : List ℕ) (n : ℕ) → 2 ≤ length s → n ≡ word 0 s → permitted k n ≡ false → Fault CountNotPermitted ≡ count_of k s
+pub count_barred : (k : Section) (s : List ℕ) (n : ℕ) → 2 ≤ length s → n ≡ word 0 s → permitted k n ≡ false → Err CountNotPermitted ≡ count_of k s
 unfolding count_of
 count_barred k s n h e p = simp (le-ltb _ _ h, ← e, p)
 
--- the items of any count of 16 bits end at a place that fits
+pub narrow : (k : Section) → width k ≤ 6
+narrow Settings = omega arith
+narrow Lamps = omega arith
+narrow Sweep = omega arith
+narrow Check = omega arith
+
+-- the items of any count of 16 bits take bytes whose number fits
 pub small : (n w : ℕ) → n < 65536 → w ≤ 6 → n * w ≤ 393216
 small n w p q = omega (arith, mul-le-mul {n₁ = n} {m₁ = w} {n₂ = 65536} {m₂ = 6} (omega arith) q)
+
+-- a part that goes to the end
+pub all_after : (n : ℕ) (s : List ℕ) → take (length s - n) (drop n s) ≡ drop n s
+all_after n s = take_all (length s - n) (drop n s) (omega (arith, length-drop n s))
 
 -- ---- what it says of the bytes
 
@@ -48,27 +59,19 @@ pub record Counted (k : Section) (s : List ℕ) (n : ℕ) : Type 0 where
   pub may : permitted k n ≡ true
   pub fits : 2 + n * width k ≤ length s
 
-pub counted : (k : Section) (s : List ℕ) (n : ℕ) → count_of k s ≡ Items n → Counted k s n
+pub counted : (k : Section) (s : List ℕ) (n : ℕ) → count_of k s ≡ Ok n → Counted k s n
 unfolding count_of
 counted k s n e =
     by (ltb (length s) 2)
-    (λ p. absurd (never (simp p at e)))
+    (λ p. cc (simp p at e))
     (λ p. by (permitted k (word 0 s))
     (λ q. by (ltb (length s) (2 + word 0 s * width k))
-    (λ r. absurd (never (simp (p, q, r) at e)))
+    (λ r. cc (simp (p, q, r) at e))
     (λ r.
-    let f : Items (word 0 s) ≡ Items n = simp (p, q, r) at e in
+    let f : Ok (word 0 s) ≡ Ok n = simp (p, q, r) at e in
     let i : word 0 s ≡ n = cc in
     record { is = sym i; may = rw (← i) q; fits = rw (← i) (ltb-false _ _ r) }))
-    (λ q. absurd (never (simp (p, q) at e))))
-  where
-    never : {r : _} {m : ℕ} → Fault r ≡ Items m → ⊥
-    never f = let z : ◌≡◌ {A = ℕ} 0 1 = cc in omega arith
-
--- a complete section that starts at place at: where it ends, and how many items there are at most
-pub record Ends (k : Section) (s : List ℕ) (at n : ℕ) : Type 0 where
-  pub fits : at + (2 + n * width k) ≤ length s
-  pub most : n ≤ 1024
+    (λ q. cc (simp (p, q) at e)))
 
 pub up_to_1024 : (k : Section) (n : ℕ) → permitted k n ≡ true → n ≤ 1024
 up_to_1024 Settings n h = omega (arith, eqb-true n 5 h)
@@ -81,8 +84,3 @@ up_to_1024 Check n h =
     by (eqb n 0)
     (λ p. omega (arith, eqb-true n 0 p))
     (λ p. omega (arith, eqb-true n 18 (simp p at h)))
-
-pub ends : (k : Section) (s : List ℕ) (at n : ℕ) → at ≤ length s → count_of k (drop at s) ≡ Items n → Ends k s at n
-ends k s at n l e =
-    let c = counted k (drop at s) n e in
-    record { fits = omega (arith, c.fits, length-drop at s); most = up_to_1024 k n c.may }

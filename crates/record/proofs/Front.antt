@@ -9,15 +9,13 @@ use lib.ListN.{length, take, drop, length-drop}
 use lib.Seq.{take_all, take-nil, length-take-le, get_or-take}
 use native.Mathlib.Omega.{arith}
 use borrow.Author.Tests.{le-ltb, eqb-true, leb-true, ne_eqb}
+use Rattle.std.specs.Prelude.{Result, Ok, Err}
 use Rattle.laws.proofs.Cases.{by, le_or_lt}
 use Rattle.record.specs.Bytes.{word}
-use Rattle.record.specs.Sections.{permitted, width, count_of, rest, after, ended, layout_of, lists_at, sections}
+use Rattle.record.specs.Sections.{Counts, permitted, width, count_of, rest, after, ended, layout_of, lists_at, sections}
+use Rattle.record.specs.declared.Refusal.{Refusal}
 use Rattle.record.specs.declared.Section.{Section}
 use Rattle.record.specs.declared.Section.TheVariants.{Settings, Lamps, Sweep, Check}
-use Rattle.record.specs.declared.SectionCount.{SectionCount}
-use Rattle.record.specs.declared.SectionCount.TheVariants.{Items, Fault}
-use Rattle.record.specs.declared.Layout.{Layout}
-use Rattle.record.specs.declared.Layout.TheVariants.{Complete, Broken}
 use Rattle.record.proofs.Counted.{counted, up_to_1024}
 use Rattle.record.proofs.Placed.{layout_from_lamps, layout_from_sweep, layout_from_check, sizes, up_to_18}
 
@@ -66,13 +64,13 @@ module _ (k : Section) (m : ℕ) (s : List ℕ) (h : most k ≤ m) (l : m ≤ le
       (λ p. simp (same_count, long, le-ltb m 2 (omega arith), le-ltb (length s) 2 (omega arith), p))
 
   -- what follows the section is a front of what follows it in the whole
-  read_front : (F : ℕ → List ℕ → Layout) → ((n j : ℕ) → j ≤ most k → F n (take (m - j) (drop j s)) ≡ F n (drop j s))
+  read_front : (F : ℕ → List ℕ → Result Counts Refusal) → ((n j : ℕ) → j ≤ most k → F n (take (m - j) (drop j s)) ≡ F n (drop j s))
       → after (count_of k (take m s)) (λ n. F n (rest k n (take m s))) ≡ after (count_of k s) (λ n. F n (rest k n s))
   read_front F same = rw count_front (found (count_of k s) refl)
     where
-      found : (x : SectionCount) → count_of k s ≡ x → after x (λ n. F n (rest k n (take m s))) ≡ after x (λ n. F n (rest k n s))
-      found (Fault r) e = refl
-      found (Items n) e = rw (drop_take (2 + n * width k) m s) (same n (2 + n * width k) (within_most k n (counted k s n e).may))
+      found : (x : Result ℕ Refusal) → count_of k s ≡ x → after x (λ n. F n (rest k n (take m s))) ≡ after x (λ n. F n (rest k n s))
+      found (Err r) e = refl
+      found (Ok n) e = rw (drop_take (2 + n * width k) m s) (same n (2 + n * width k) (within_most k n (counted k s n e).may))
 
 -- ---- the sections from the last to the first, with one byte more than they may have
 
@@ -107,9 +105,9 @@ too_long : (s : List ℕ) → 6251 ≤ length s → sections (take 6251 s) ≡ s
 unfolding sections
 too_long s l = rw (layout_front s l) (broken (layout_of s) refl)
   where
-    broken : (x : Layout) → layout_of s ≡ x → lists_at (take 6251 s) x ≡ lists_at s x
-    broken (Broken r) e = refl
-    broken (Complete a b c d) e = absurd (let z = sizes s a b c d e in omega arith)
+    broken : (x : Result Counts Refusal) → layout_of s ≡ x → after x (λ n. Ok (lists_at (take 6251 s) n)) ≡ after x (λ n. Ok (lists_at s n))
+    broken (Err r) e = refl
+    broken (Ok n) e = absurd (let z = sizes s n e in omega arith)
 
 -- the sections of any input are those of its first 6,251 bytes
 pub sections_front : (s : List ℕ) → sections (take 6251 s) ≡ sections s

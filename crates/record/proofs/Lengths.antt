@@ -5,24 +5,24 @@ use mathlib.Core.Path.{◌≡◌, refl}
 use mathlib.Core.List.{List, [], ◌∷◌}
 use lib.ListN.{length, replicate}
 use native.Mathlib.Omega.{arith}
+use Rattle.std.specs.Prelude.{Result, Ok, Err}
 use Rattle.laws.specs.Rises.{rises_from, rises_by}
 use Rattle.record.specs.Bytes.{fields}
-use Rattle.record.specs.Sections.{count_of, layout_of, sections}
+use Rattle.record.specs.Sections.{Counts, count_of, layout_of, sections}
 use Rattle.record.specs.Tests.{settings_in_range, all_up_to, judged, job_of, answer_of}
 use Rattle.record.specs.Written.{run, run_sweep, written, Writable}
 use Rattle.record.specs.Lengths.{AcceptedOf, AcceptedLengths}
-use Rattle.record.specs.declared.Layout.{Layout}
-use Rattle.record.specs.declared.Layout.TheVariants.{Complete, Broken}
 use Rattle.record.specs.declared.Job.{Job}
-use Rattle.record.specs.declared.Answer.TheVariants.{Accepted, Refused}
+use Rattle.record.specs.declared.Refusal.{Refusal}
 use Rattle.record.proofs.Placed.{sizes}
+use Rattle.record.proofs.Parts.{lists}
 use Rattle.record.proofs.RoundTrip.{round_trip}
 
-module _ (s : List ℕ) (job : Job) (h : answer_of s ≡ Accepted job) where
-  between : (l : Layout) → layout_of s ≡ l → (30 ≤ length s) × (length s ≤ 6250)
+module _ (s : List ℕ) (job : Job) (h : answer_of s ≡ Ok job) where
+  between : (l : Result Counts Refusal) → layout_of s ≡ l → (30 ≤ length s) × (length s ≤ 6250)
   unfolding answer_of sections
-  between (Complete a b c d) e = let z = sizes s a b c d e in (omega arith, omega arith)
-  between (Broken r) e = absurd (let f : Refused r ≡ Accepted job = simp e at h in let z : ◌≡◌ {A = ℕ} 0 1 = cc in omega arith)
+  between (Ok n) e = let z = sizes s n e in (omega arith, omega arith)
+  between (Err r) e = cc (simp e at h)
 
   within_lengths : (30 ≤ length s) × (length s ≤ 6250)
   within_lengths = between (layout_of s) refl
@@ -51,7 +51,8 @@ longest =
     let ddls = counting 0 1024 in
     let luminances = replicate {A = ℕ} 1024 0 in
     let check = replicate {A = ℕ} 18 0 in
-    let w : Writable settings lamps ddls luminances check = record {
+    let l = lists settings lamps ddls luminances check in
+    let w : Writable l = record {
       settings_count = tt;
       lamps_count = tt;
       sweep_count = tt;
@@ -64,11 +65,11 @@ longest =
       check_fit = tt;
     } in
     record {
-      s = written settings lamps ddls luminances check;
+      s = written l;
       bytes = tt;
       size = refl;
       job = job_of settings lamps;
-      accepted = rw (round_trip settings lamps ddls luminances check w);
+      accepted = rw (round_trip l w);
     }
 
 pub accepted_lengths : AcceptedLengths

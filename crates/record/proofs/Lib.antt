@@ -1,10 +1,11 @@
+pub mod Parts
 pub mod Fields
 pub mod Scans
 pub mod Counted
 pub mod Judged
 pub mod Climbing
 pub mod Placed
-pub mod Reading
+pub mod Held
 pub mod Written
 pub mod RoundTrip
 pub mod Outcomes

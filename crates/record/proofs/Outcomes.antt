@@ -1,7 +1,7 @@
 -- Exactly one outcome: every list of bytes has one, and each has the answer that the reader gives.
 -- Assumes nothing.
 use Prim.Native.Nat.{ℕ, ◌+◌, ◌*◌, ◌≤◌}
-use mathlib.Core.Path.{◌≡◌, refl, sym, ap, ◌∙◌}
+use mathlib.Core.Path.{◌≡◌, refl, sym, ap, subst, ◌∙◌}
 use mathlib.Core.List.{List, [], ◌∷◌, ◌++◌}
 use mathlib.Core.Bool.{◌&&◌}
 use mathlib.Core.Logic.{◌⊎◌, inl, inr, ⊎_elim}
@@ -10,20 +10,19 @@ use lib.Seq.{drop-drop, length-take-le}
 use lib.Dec.{T}
 use native.Mathlib.Omega.{arith}
 use borrow.Author.Tests.{ne_eqb}
+use Rattle.std.specs.Prelude.{Ok, Err}
 use Rattle.laws.proofs.Cases.{by, le_or_lt, is_yes, is_no, yes_is, no_is}
 use Rattle.record.specs.Bytes.{word, long, fields, bytes16, bytes32}
-use Rattle.record.specs.Sections.{permitted, width, count_of, items, rest, layout_of, lists, unread, sections}
+use Rattle.record.specs.Sections.{permitted, width, count_of, items, rest, layout_of, Lists, sections}
 use Rattle.record.specs.Tests.{all_up_to, settings_in_range, lamps_in_range, spans, max_ddl, is_never_falling, judged, answer_of}
 use Rattle.record.specs.Written.{section, written}
 use Rattle.record.specs.Outcome.{Whole, Reached, to_settings, to_lamps, to_sweep, to_check, EndsIn, count_cut, items_cut, Barred, Holds, Outcome, too_short, not_permitted, trailing, out_of_range, not_spanning, falls, passes, answer_for, Under, WrittenJob}
 use Rattle.record.specs.declared.Section.{Section}
 use Rattle.record.specs.declared.Section.TheVariants.{Settings, Lamps, Sweep, Check}
-use Rattle.record.specs.declared.SectionCount.TheVariants.{Fault}
 use Rattle.record.specs.declared.Refusal.{Refusal}
 use Rattle.record.specs.declared.Refusal.TheVariants.{RecordTooShort, CountNotPermitted, TrailingBytes}
-use Rattle.record.specs.declared.Layout.TheVariants.{Broken}
 use Rattle.record.specs.declared.Job.{Job}
-use Rattle.record.specs.declared.Answer.TheVariants.{Accepted, Refused}
+use Rattle.record.proofs.Parts.{lists}
 use Rattle.record.proofs.Fields.{fields_length}
 use Rattle.record.proofs.Counted.{count_none, count_short, count_barred, up_to_1024}
 use Rattle.record.proofs.Written.{word_back, word_fits, long_fits, fields_fit, up_to_drop, up_to_take, word_front_again, long_front_again, run_again, run_sweep_again}
@@ -31,14 +30,14 @@ use Rattle.record.proofs.RoundTrip.{AtLamps, AtSweep, AtCheck, past_settings, pa
 
 -- ---- the answer of each outcome
 
-ends_count : {k : Section} {t : List ℕ} → EndsIn k t → count_of k t ≡ Fault RecordTooShort
+ends_count : {k : Section} {t : List ℕ} → EndsIn k t → count_of k t ≡ Err RecordTooShort
 ends_count {k} {t} (count_cut h) = sym (count_none k t h)
 ends_count {k} {t} (items_cut n bs e m h) =
     let l : length t ≡ 2 + length bs = ap length e ∙ omega arith in
     let s : n ≤ 1024 = up_to_1024 k n (is_yes (permitted k n) m) in
     sym (count_short k t n (width k) (omega arith) (sym (ap (word 0) e ∙ word_back n (omega arith))) refl (is_yes (permitted k n) m) (omega arith))
 
-barred_count : {k : Section} {t : List ℕ} → Barred k t → count_of k t ≡ Fault CountNotPermitted
+barred_count : {k : Section} {t : List ℕ} → Barred k t → count_of k t ≡ Err CountNotPermitted
 barred_count {k} {t} b =
     let l : length t ≡ 2 + length b.more = ap length b.is ∙ omega arith in
     sym (count_barred k t b.count (omega arith) (sym (ap (word 0) b.is ∙ word_back b.count (omega (arith, b.fits)))) (is_no (permitted k b.count) b.may_not))
@@ -53,7 +52,7 @@ at_check : {s t : List ℕ} → Reached s Check t → AtCheck s t
 at_check (to_check r w) = past_sweep (at_sweep r) w
 
 -- a section that cannot be read ends the reading
-stops : {s t : List ℕ} {k : Section} {r : Refusal} → Reached s k t → count_of k t ≡ Fault r → layout_of s ≡ Broken r
+stops : {s t : List ℕ} {k : Section} {r : Refusal} → Reached s k t → count_of k t ≡ Err r → layout_of s ≡ Err r
 unfolding layout_of
 stops {k = Settings} to_settings e = rw e
 stops {k = Lamps} (to_lamps w) e = (at_lamps (to_lamps w)).is ∙ rw e
@@ -61,26 +60,26 @@ stops {k = Sweep} (to_sweep q w) e = (at_sweep (to_sweep q w)).is ∙ rw e
 stops {k = Check} (to_check q w) e = (at_check (to_check q w)).is ∙ rw e
 
 -- so do bytes after the last one
-goes_past : {s t more : List ℕ} {x : ℕ} → Reached s Check t → Whole Check t (x ∷ more) → layout_of s ≡ Broken TrailingBytes
+goes_past : {s t more : List ℕ} {x : ℕ} → Reached s Check t → Whole Check t (x ∷ more) → layout_of s ≡ Err TrailingBytes
 goes_past {more = more} {x = x} r w = past_check (at_check r) w ∙ rw (ne_eqb (length (x ∷ more)) 0 (λ e. omega arith))
 
-broken_answer : (s : List ℕ) {r : Refusal} → layout_of s ≡ Broken r → answer_of s ≡ Refused r
+broken_answer : (s : List ℕ) {r : Refusal} → layout_of s ≡ Err r → answer_of s ≡ Err r
 unfolding answer_of sections
 broken_answer s e = rw e
 
-held_answer : {s st la dd lu ch : List ℕ} → Holds s st la dd lu ch → answer_of s ≡ judged st la dd lu
+held_answer : {s : List ℕ} {l : Lists} → Holds s l → answer_of s ≡ judged l.settings l.lamps l.ddls l.luminances
 unfolding answer_of
-held_answer {st = st} {la = la} {dd = dd} {lu = lu} {ch = ch} h = rw (h.is, round_trip st la dd lu ch h.writable)
+held_answer {l = l} h = rw (h.is, round_trip l h.writable)
 
 pub decides : {s : List ℕ} (o : Outcome s) → answer_of s ≡ answer_for o
 unfolding judged
 decides {s} (too_short r e) = broken_answer s (stops r (ends_count e))
 decides {s} (not_permitted r b) = broken_answer s (stops r (barred_count b))
 decides {s} (trailing r w) = broken_answer s (goes_past r w)
-decides (out_of_range {st = st} {la = la} h a) = held_answer h ∙ rw (is_no (settings_in_range st && lamps_in_range la) a)
-decides (not_spanning {st = st} {la = la} {dd = dd} h a b) = held_answer h ∙ rw (is_yes (settings_in_range st && lamps_in_range la) a, is_no (spans (max_ddl (get_or st 0 0)) dd) b)
-decides (falls {st = st} {la = la} {dd = dd} {lu = lu} h a b c) = held_answer h ∙ rw (is_yes (settings_in_range st && lamps_in_range la) a, is_yes (spans (max_ddl (get_or st 0 0)) dd) b, is_no (is_never_falling lu) c)
-decides (passes {st = st} {la = la} {dd = dd} {lu = lu} h a b c) = held_answer h ∙ rw (is_yes (settings_in_range st && lamps_in_range la) a, is_yes (spans (max_ddl (get_or st 0 0)) dd) b, is_yes (is_never_falling lu) c)
+decides (out_of_range {l} h a) = held_answer h ∙ rw (is_no (settings_in_range l.settings && lamps_in_range l.lamps) a)
+decides (not_spanning {l} h a b) = held_answer h ∙ rw (is_yes (settings_in_range l.settings && lamps_in_range l.lamps) a, is_no (spans (max_ddl (get_or l.settings 0 0)) l.ddls) b)
+decides (falls {l} h a b c) = held_answer h ∙ rw (is_yes (settings_in_range l.settings && lamps_in_range l.lamps) a, is_yes (spans (max_ddl (get_or l.settings 0 0)) l.ddls) b, is_no (is_never_falling l.luminances) c)
+decides (passes {l} h a b c) = held_answer h ∙ rw (is_yes (settings_in_range l.settings && lamps_in_range l.lamps) a, is_yes (spans (max_ddl (get_or l.settings 0 0)) l.ddls) b, is_yes (is_never_falling l.luminances) c)
 
 -- so any two have the same answer
 pub one_answer : {s : List ℕ} (o p : Outcome s) → answer_for o ≡ answer_for p
@@ -129,7 +128,7 @@ broken r (inr b) = not_permitted r b
 -- what four whole sections hold
 module _ {s t u v : List ℕ} (w₀ : Whole Settings s t) (w₁ : Whole Lamps t u) (w₂ : Whole Sweep u v) (w₃ : Whole Check v [])
     (b₀ : T (all_up_to 255 w₀.items)) (b₁ : T (all_up_to 255 w₁.items)) (b₂ : T (all_up_to 255 w₂.items)) (b₃ : T (all_up_to 255 w₃.items)) where
-  holds : Holds s (fields 2 (word 0) w₀.count w₀.items) (fields 2 (word 0) w₁.count w₁.items) (fields 6 (word 0) w₂.count w₂.items) (fields 6 (long 2) w₂.count w₂.items) (fields 4 (long 0) w₃.count w₃.items)
+  holds : Holds s (lists (fields 2 (word 0) w₀.count w₀.items) (fields 2 (word 0) w₁.count w₁.items) (fields 6 (word 0) w₂.count w₂.items) (fields 6 (long 2) w₂.count w₂.items) (fields 4 (long 0) w₃.count w₃.items))
   unfolding written
   holds = record {
     writable = record {
@@ -158,11 +157,11 @@ module _ {s t u v : List ℕ} (w₀ : Whole Settings s t) (w₁ : Whole Lamps t 
         (w₀.is ∙ ap (section w₀.count w₀.items) (w₁.is ∙ ap (section w₁.count w₁.items) (w₂.is ∙ ap (section w₂.count w₂.items) w₃.is)));
   }
 
-held_outcome : {s st la dd lu ch : List ℕ} → Holds s st la dd lu ch → Outcome s
-held_outcome {st = st} {la = la} {dd = dd} {lu = lu} h =
-    by (settings_in_range st && lamps_in_range la)
-    (λ a. by (spans (max_ddl (get_or st 0 0)) dd)
-    (λ b. by (is_never_falling lu)
+held_outcome : {s : List ℕ} {l : Lists} → Holds s l → Outcome s
+held_outcome {l = l} h =
+    by (settings_in_range l.settings && lamps_in_range l.lamps)
+    (λ a. by (spans (max_ddl (get_or l.settings 0 0)) l.ddls)
+    (λ b. by (is_never_falling l.luminances)
     (λ c. passes h (yes_is a) (yes_is b) (yes_is c))
     (λ c. falls h (yes_is a) (yes_is b) (no_is c)))
     (λ b. not_spanning h (yes_is a) (no_is b)))
@@ -198,28 +197,18 @@ some_outcome s b =
 
 -- ---- a record that can be read is the written form of its lists
 
-unread_lists : {r : Refusal} {st la dd lu ch : List ℕ} → unread r ≡ lists st la dd lu ch → ⊥
-unread_lists e = let z : ◌≡◌ {A = ℕ} 0 1 = cc in omega arith
-
-module _ (s st la dd lu ch : List ℕ) (e : sections s ≡ lists st la dd lu ch) where
-  not_broken : {r : Refusal} → layout_of s ≡ Broken r → ⊥
+module _ (s : List ℕ) (l : Lists) (e : sections s ≡ Ok l) where
+  not_broken : {r : Refusal} → layout_of s ≡ Err r → ⊥
   unfolding sections
-  not_broken b = unread_lists (simp b at e)
+  not_broken b = cc (simp b at e)
 
-  same_lists : {st' la' dd' lu' ch' : List ℕ} → Holds s st' la' dd' lu' ch' → Holds s st la dd lu ch
-  same_lists {st'} {la'} {dd'} {lu'} {ch'} h =
-      let f : lists st' la' dd' lu' ch' ≡ lists st la dd lu ch = sym (round_trip st' la' dd' lu' ch' h.writable) ∙ ap sections (sym h.is) ∙ e in
-      let a : st' ≡ st = cc f in
-      let b : la' ≡ la = cc f in
-      let c : dd' ≡ dd = cc f in
-      let d : lu' ≡ lu = cc f in
-      let g : ch' ≡ ch = cc f in
-      moved a b c d g h
-    where
-      moved : {a b c d g a' b' c' d' g' : List ℕ} → a ≡ a' → b ≡ b' → c ≡ c' → d ≡ d' → g ≡ g' → Holds s a b c d g → Holds s a' b' c' d' g'
-      moved p q r t u h = rw (← p, ← q, ← r, ← t, ← u) h
+  same_lists : {m : Lists} → Holds s m → Holds s l
+  same_lists {m} h =
+      let f : Ok m ≡ Ok l = sym (round_trip m h.writable) ∙ ap sections (sym h.is) ∙ e in
+      let k : m ≡ l = cc f in
+      subst (Holds s) k h
 
-  held : Outcome s → Holds s st la dd lu ch
+  held : Outcome s → Holds s l
   held (too_short r x) = absurd (not_broken (stops r (ends_count x)))
   held (not_permitted r x) = absurd (not_broken (stops r (barred_count x)))
   held (trailing r w) = absurd (not_broken (goes_past r w))
@@ -228,7 +217,7 @@ module _ (s st la dd lu ch : List ℕ) (e : sections s ≡ lists st la dd lu ch)
   held (falls h a b c) = same_lists h
   held (passes h a b c) = same_lists h
 
-  pub lists_written : T (all_up_to 255 s) → Holds s st la dd lu ch
+  pub lists_written : T (all_up_to 255 s) → Holds s l
   lists_written b = held (some_outcome s b)
 
 -- ---- what the reader's answer says of the bytes
@@ -237,26 +226,15 @@ module _ (s st la dd lu ch : List ℕ) (e : sections s ≡ lists st la dd lu ch)
 pub only_under : (s : List ℕ) → T (all_up_to 255 s) → Under s (answer_of s)
 only_under s b = record { outcome = some_outcome s b; is = sym (decides (some_outcome s b)) }
 
-refused_accepted : {r : Refusal} {job : Job} → Refused r ≡ Accepted job → ⊥
-refused_accepted e = let z : ◌≡◌ {A = ℕ} 0 1 = cc in omega arith
-
 -- an accepted record is the written form of its lists
-pub accepted_written : (s : List ℕ) (job : Job) → T (all_up_to 255 s) → answer_of s ≡ Accepted job → WrittenJob s job
+pub accepted_written : (s : List ℕ) (job : Job) → T (all_up_to 255 s) → answer_of s ≡ Ok job → WrittenJob s job
 accepted_written s job b e = from (some_outcome s b) (sym (decides (some_outcome s b)) ∙ e)
   where
-    from : (o : Outcome s) → answer_for o ≡ Accepted job → WrittenJob s job
-    from (too_short r x) f = absurd (refused_accepted f)
-    from (not_permitted r x) f = absurd (refused_accepted f)
-    from (trailing r w) f = absurd (refused_accepted f)
-    from (out_of_range h a) f = absurd (refused_accepted f)
-    from (not_spanning h a c) f = absurd (refused_accepted f)
-    from (falls h a c d) f = absurd (refused_accepted f)
-    from (passes {st = st} {la = la} {dd = dd} {lu = lu} {ch = ch} h a c d) f = record {
-      settings = st;
-      lamps = la;
-      ddls = dd;
-      luminances = lu;
-      check = ch;
-      holds = h;
-      is = cc f;
-    }
+    from : (o : Outcome s) → answer_for o ≡ Ok job → WrittenJob s job
+    from (too_short r x) f = cc f
+    from (not_permitted r x) f = cc f
+    from (trailing r w) f = cc f
+    from (out_of_range h a) f = cc f
+    from (not_spanning h a c) f = cc f
+    from (falls h a c d) f = cc f
+    from (passes {l} h a c d) f = record { lists = l; holds = h; is = cc f }

@@ -1,7 +1,7 @@
 -- What is known of an accepted record: for the layers that work on its job and its readings.
-use Rattle.std.specs.Prelude.{ℕ, suc, ◌-◌, ◌≤◌, ◌<◌, List, ◌≡◌, length, get_or, T}
+use Rattle.std.specs.Prelude.{ℕ, suc, ◌-◌, ◌≤◌, ◌<◌, List, ◌≡◌, length, get_or, sum, T}
 use Rattle.record.specs.Sections.{permitted, sections, settings_in, lamps_in, ddls_in, luminances_in, check_in}
-use Rattle.record.specs.Tests.{meter_number, class_number, settings_of, sum, max_ddl}
+use Rattle.record.specs.Tests.{meter_number, class_number, settings_of, max_ddl}
 use Rattle.record.specs.declared.Section.TheVariants.{Sweep, Check}
 use Rattle.record.specs.declared.Job.{Job}
 

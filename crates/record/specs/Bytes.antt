@@ -10,7 +10,7 @@ abbrev pub long : ℕ → List ℕ → ℕ
 long i s = word i s + 65536 * word (i + 2) s
 
 -- the field that f reads in each of n items, which are w bytes long
-unfoldable pub fields : ℕ → (List ℕ → ℕ) → ℕ → List ℕ → List ℕ
+unfoldable pub fields : {A : Type 0} → ℕ → (List ℕ → A) → ℕ → List ℕ → List A
 fields w f zero s = []
 fields w f (suc n) s = f s ∷ fields w f n (drop w s)
 

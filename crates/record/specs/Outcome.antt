@@ -1,16 +1,15 @@
 -- What can come of a record: one case for each refusal from 2 to 7, and one for an accepted record. How the record is laid out is stated here by its
 -- written form, and not by reading it; the tests of its lists are those of `Tests`.
-use Rattle.std.specs.Prelude.{ℕ, ◌*◌, ◌<◌, List, ◌∷◌, ◌++◌, not, ◌&&◌, ◌≡◌, length, get_or, T}
+use Rattle.std.specs.Prelude.{ℕ, ◌*◌, ◌<◌, List, ◌∷◌, ◌++◌, not, ◌&&◌, ◌≡◌, length, get_or, T, Result, Ok, Err}
 use Rattle.record.specs.Bytes.{bytes16}
-use Rattle.record.specs.Sections.{permitted, width}
+use Rattle.record.specs.Sections.{permitted, width, Lists}
 use Rattle.record.specs.Tests.{settings_in_range, lamps_in_range, spans, max_ddl, is_never_falling, job_of}
 use Rattle.record.specs.Written.{section, written, Writable}
 use Rattle.record.specs.declared.Section.{Section}
 use Rattle.record.specs.declared.Section.TheVariants.{Settings, Lamps, Sweep, Check}
+use Rattle.record.specs.declared.Refusal.{Refusal}
 use Rattle.record.specs.declared.Refusal.TheVariants.{RecordTooShort, CountNotPermitted, TrailingBytes, OutOfRange, DdlsDoNotSpan, LuminanceFalls}
 use Rattle.record.specs.declared.Job.{Job}
-use Rattle.record.specs.declared.Answer.{Answer}
-use Rattle.record.specs.declared.Answer.TheVariants.{Accepted, Refused}
 
 -- s is section k with a permitted count and all its items, and then more
 pub record Whole (k : Section) (s more : List ℕ) : Type 0 where
@@ -41,9 +40,9 @@ pub record Barred (k : Section) (t : List ℕ) : Type 0 where
   pub may_not : T (not (permitted k count))
 
 -- s is the written form of five lists
-pub record Holds (s settings lamps ddls luminances check : List ℕ) : Type 0 where
-  pub writable : Writable settings lamps ddls luminances check
-  pub is : s ≡ written settings lamps ddls luminances check
+pub record Holds (s : List ℕ) (l : Lists) : Type 0 where
+  pub writable : Writable l
+  pub is : s ≡ written l
 
 -- what can come of s: 2, 3 and 4 by how it is laid out, 5, 6 and 7 by its lists, or none of them
 pub data Outcome (s : List ℕ) : Type 0 where
@@ -54,35 +53,31 @@ pub data Outcome (s : List ℕ) : Type 0 where
   -- 4
   trailing : {t : List ℕ} {x : ℕ} {more : List ℕ} → Reached s Check t → Whole Check t (x ∷ more) → Outcome s
   -- 5
-  out_of_range : {st la dd lu ch : List ℕ} → Holds s st la dd lu ch → T (not (settings_in_range st && lamps_in_range la)) → Outcome s
+  out_of_range : {l : Lists} → Holds s l → T (not (settings_in_range l.settings && lamps_in_range l.lamps)) → Outcome s
   -- 6
-  not_spanning : {st la dd lu ch : List ℕ} → Holds s st la dd lu ch → T (settings_in_range st && lamps_in_range la) → T (not (spans (max_ddl (get_or st 0 0)) dd)) → Outcome s
+  not_spanning : {l : Lists} → Holds s l → T (settings_in_range l.settings && lamps_in_range l.lamps) → T (not (spans (max_ddl (get_or l.settings 0 0)) l.ddls)) → Outcome s
   -- 7
-  falls : {st la dd lu ch : List ℕ} → Holds s st la dd lu ch → T (settings_in_range st && lamps_in_range la) → T (spans (max_ddl (get_or st 0 0)) dd) → T (not (is_never_falling lu)) → Outcome s
+  falls : {l : Lists} → Holds s l → T (settings_in_range l.settings && lamps_in_range l.lamps) → T (spans (max_ddl (get_or l.settings 0 0)) l.ddls) → T (not (is_never_falling l.luminances)) → Outcome s
   -- accepted
-  passes : {st la dd lu ch : List ℕ} → Holds s st la dd lu ch → T (settings_in_range st && lamps_in_range la) → T (spans (max_ddl (get_or st 0 0)) dd) → T (is_never_falling lu) → Outcome s
+  passes : {l : Lists} → Holds s l → T (settings_in_range l.settings && lamps_in_range l.lamps) → T (spans (max_ddl (get_or l.settings 0 0)) l.ddls) → T (is_never_falling l.luminances) → Outcome s
 
 -- the answer that each case has
-abbrev pub answer_for : {s : List ℕ} → Outcome s → Answer
-answer_for (too_short r e) = Refused RecordTooShort
-answer_for (not_permitted r b) = Refused CountNotPermitted
-answer_for (trailing r w) = Refused TrailingBytes
-answer_for (out_of_range h a) = Refused OutOfRange
-answer_for (not_spanning h a b) = Refused DdlsDoNotSpan
-answer_for (falls h a b c) = Refused LuminanceFalls
-answer_for (passes {st = st} {la = la} h a b c) = Accepted (job_of st la)
+abbrev pub answer_for : {s : List ℕ} → Outcome s → Result Job Refusal
+answer_for (too_short r e) = Err RecordTooShort
+answer_for (not_permitted r b) = Err CountNotPermitted
+answer_for (trailing r w) = Err TrailingBytes
+answer_for (out_of_range h a) = Err OutOfRange
+answer_for (not_spanning h a b) = Err DdlsDoNotSpan
+answer_for (falls h a b c) = Err LuminanceFalls
+answer_for (passes {l} h a b c) = Ok (job_of l.settings l.lamps)
 
 -- some outcome of s has this answer
-pub record Under (s : List ℕ) (answer : Answer) : Type 0 where
+pub record Under (s : List ℕ) (answer : Result Job Refusal) : Type 0 where
   pub outcome : Outcome s
   pub is : answer_for outcome ≡ answer
 
 -- s is the written form of five lists, of which this is the job
 pub record WrittenJob (s : List ℕ) (job : Job) : Type 0 where
-  pub settings : List ℕ
-  pub lamps : List ℕ
-  pub ddls : List ℕ
-  pub luminances : List ℕ
-  pub check : List ℕ
-  pub holds : Holds s settings lamps ddls luminances check
-  pub is : job ≡ job_of settings lamps
+  pub lists : Lists
+  pub holds : Holds s lists
+  pub is : job ≡ job_of lists.settings lists.lamps

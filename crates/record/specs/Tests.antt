@@ -1,7 +1,8 @@
 -- Tests 5, 6 and 7, over the lists of a record alone.
-use Rattle.std.specs.Prelude.{ℕ, ◌+◌, ◌-◌, ◌^◌, List, [], ◌∷◌, Bool, true, cond, ◌&&◌, length, get_or, leb, eqb}
+use Rattle.std.specs.Prelude.{ℕ, ◌-◌, ◌^◌, List, Bool, cond, ◌&&◌, length, get_or, leb, eqb, sum, Result, Ok, Err}
+use Rattle.std.specs.List.{list_all}
 use Rattle.laws.specs.Rises.{rises_by}
-use Rattle.record.specs.Sections.{Sections, lists, unread, sections}
+use Rattle.record.specs.Sections.{after, sections}
 use Rattle.record.specs.declared.Refusal.{Refusal}
 use Rattle.record.specs.declared.Refusal.TheVariants.{OutOfRange, DdlsDoNotSpan, LuminanceFalls}
 use Rattle.record.specs.declared.Meter.{Meter}
@@ -10,8 +11,6 @@ use Rattle.record.specs.declared.Class.{Class}
 use Rattle.record.specs.declared.Class.TheVariants.{Primary, Secondary}
 use Rattle.record.specs.declared.JobSettings.{JobSettings}
 use Rattle.record.specs.declared.Job.{Job}
-use Rattle.record.specs.declared.Answer.{Answer}
-use Rattle.record.specs.declared.Answer.TheVariants.{Accepted, Refused}
 
 -- n is from low to high
 abbrev pub within : ℕ → ℕ → ℕ → Bool
@@ -24,8 +23,7 @@ settings_in_range xs =
 
 -- each element is at most m
 unfoldable pub all_up_to : ℕ → List ℕ → Bool
-all_up_to m [] = true
-all_up_to m (x ∷ xs) = leb x m && all_up_to m xs
+all_up_to m xs = list_all (λ x. leb x m) xs
 
 abbrev pub lamps_in_range : List ℕ → Bool
 lamps_in_range = all_up_to 2000
@@ -68,29 +66,21 @@ settings_of xs = record {
   tolerance = get_or xs 4 0;
 }
 
-unfoldable pub sum : List ℕ → ℕ
-sum [] = 0
-sum (x ∷ xs) = x + sum xs
-
 abbrev pub job_of : List ℕ → List ℕ → Job
 job_of settings lamps = record { settings = settings_of settings; lamps = record { 0 = sum lamps } }
 
--- the answer where the test passes, else the refusal
-abbrev pub unless : Bool → Refusal → Answer → Answer
-unless test r answer = cond test answer (Refused r)
+-- the result where the test passes, else the refusal
+abbrev pub unless : {A : Type 0} → Bool → Refusal → Result A Refusal → Result A Refusal
+unless test r result = cond test result (Err r)
 
 -- tests 5, 6 and 7 in their order
-unfoldable pub judged : (settings lamps ddls luminances : List ℕ) → Answer
+unfoldable pub judged : (settings lamps ddls luminances : List ℕ) → Result Job Refusal
 judged settings lamps ddls luminances =
     unless (settings_in_range settings && lamps_in_range lamps) OutOfRange
     (unless (spans (max_ddl (get_or settings 0 0)) ddls) DdlsDoNotSpan
     (unless (is_never_falling luminances) LuminanceFalls
-    (Accepted (job_of settings lamps))))
-
-abbrev pub judged_of : Sections → Answer
-judged_of (lists settings lamps ddls luminances check) = judged settings lamps ddls luminances
-judged_of (unread r) = Refused r
+    (Ok (job_of settings lamps))))
 
 -- what a record of any bytes gives: its job, or the one refusal from 2 to 7
-unfoldable pub answer_of : List ℕ → Answer
-answer_of s = judged_of (sections s)
+unfoldable pub answer_of : List ℕ → Result Job Refusal
+answer_of s = after (sections s) (λ l. judged l.settings l.lamps l.ddls l.luminances)

@@ -1,7 +1,7 @@
 -- The written form of five lists, as a record's bytes.
 use Rattle.std.specs.Prelude.{ℕ, List, [], ◌∷◌, ◌++◌, ◌≡◌, length, T}
 use Rattle.record.specs.Bytes.{bytes16, bytes32}
-use Rattle.record.specs.Sections.{permitted}
+use Rattle.record.specs.Sections.{permitted, Lists}
 use Rattle.record.specs.Tests.{all_up_to}
 use Rattle.record.specs.declared.Section.TheVariants.{Settings, Lamps, Sweep, Check}
 
@@ -21,22 +21,22 @@ abbrev pub section : ℕ → List ℕ → List ℕ → List ℕ
 section n items more = bytes16 n ++ (items ++ more)
 
 -- the record of five lists
-unfoldable pub written : (settings lamps ddls luminances check : List ℕ) → List ℕ
-written settings lamps ddls luminances check =
-    section (length settings) (run bytes16 settings)
-    (section (length lamps) (run bytes16 lamps)
-    (section (length ddls) (run_sweep ddls luminances)
-    (section (length check) (run bytes32 check) [])))
+unfoldable pub written : Lists → List ℕ
+written l =
+    section (length l.settings) (run bytes16 l.settings)
+    (section (length l.lamps) (run bytes16 l.lamps)
+    (section (length l.ddls) (run_sweep l.ddls l.luminances)
+    (section (length l.check) (run bytes32 l.check) [])))
 
 -- the counts are permitted, and the values fit their fields
-pub record Writable (settings lamps ddls luminances check : List ℕ) : Type 0 where
-  pub settings_count : T (permitted Settings (length settings))
-  pub lamps_count : T (permitted Lamps (length lamps))
-  pub sweep_count : T (permitted Sweep (length ddls))
-  pub pairs : length luminances ≡ length ddls
-  pub check_count : T (permitted Check (length check))
-  pub settings_fit : T (all_up_to 65535 settings)
-  pub lamps_fit : T (all_up_to 65535 lamps)
-  pub ddls_fit : T (all_up_to 65535 ddls)
-  pub luminances_fit : T (all_up_to 4294967295 luminances)
-  pub check_fit : T (all_up_to 4294967295 check)
+pub record Writable (l : Lists) : Type 0 where
+  pub settings_count : T (permitted Settings (length l.settings))
+  pub lamps_count : T (permitted Lamps (length l.lamps))
+  pub sweep_count : T (permitted Sweep (length l.ddls))
+  pub pairs : length l.luminances ≡ length l.ddls
+  pub check_count : T (permitted Check (length l.check))
+  pub settings_fit : T (all_up_to 65535 l.settings)
+  pub lamps_fit : T (all_up_to 65535 l.lamps)
+  pub ddls_fit : T (all_up_to 65535 l.ddls)
+  pub luminances_fit : T (all_up_to 4294967295 l.luminances)
+  pub check_fit : T (all_up_to 4294967295 l.check)

@@ -1,16 +1,16 @@
 -- The results of both readers in bare numbers.
-use Rattle.std.specs.Prelude.{ℕ, List, ◌≡◌, length, take}
+use Rattle.std.specs.Prelude.{ℕ, List, ◌≡◌, length, take, Result, Ok, Err}
 use Rattle.record.specs.Refusals.{refusal_number}
 use Rattle.record.specs.Sections.{sections, settings_in, lamps_in, ddls_in, luminances_in, check_in}
 use Rattle.record.specs.Tests.{meter_number, class_number, answer_of}
-use Rattle.record.specs.declared.Answer.{Answer}
-use Rattle.record.specs.declared.Answer.TheVariants.{Accepted, Refused}
+use Rattle.record.specs.declared.Job.{Job}
+use Rattle.record.specs.declared.Refusal.{Refusal}
 use Rattle.record_values.specs.declared.Numbers.{Numbers}
 use Rattle.record_values.specs.declared.RecordValues.{RecordValues}
 
 -- the numbers of an answer
-abbrev pub numbers_of : Answer → Numbers
-numbers_of (Accepted job) = record {
+abbrev pub numbers_of : Result Job Refusal → Numbers
+numbers_of (Ok job) = record {
   refusal = 0;
   depth = job.settings.depth;
   meter = meter_number job.settings.meter;
@@ -19,7 +19,7 @@ numbers_of (Accepted job) = record {
   tolerance = job.settings.tolerance;
   lux = job.lamps.0;
 }
-numbers_of (Refused r) = record {
+numbers_of (Err r) = record {
   refusal = refusal_number r;
   depth = 0;
   meter = 0;

@@ -1,13 +1,13 @@
 // The reader of a job record through the C ABI, on bare numbers: for the comparison by running.
 #![tactic(auto)]
 
-ghost use Rattle.std.specs.Prelude.{◌≡◌};
-ghost use Rattle.record.specs.Tests.{meter_number, class_number};
+ghost use Rattle.std.specs.Prelude.{◌≡◌, ◌++◌, ◌≤◌, length, drop};
+ghost use Rattle.record.specs.Reader.{values, ddls_of, luminances_of};
 ghost use Rattle.record_values.specs.Values.{numbers_of, ValuesOf};
 
-use record::{Answer, Class, Meter};
+use record::{Field, Items, Job, Reading, Refusal};
 
-// An answer in the numbers of document 01; 0 stands for no refusal, and for each value that a refused record does not have.
+// An answer in the numbers of document 01; 0 stands for no refusal, and for each value that a refused record does not have. C has no Result and no enum.
 #[repr(C)]
 #[derive(Drop)]
 pub struct Numbers {
@@ -20,6 +20,7 @@ pub struct Numbers {
     pub lux: u16,
 }
 
+// What C sees of a record. C has no slice by value: an array for the most items, and their number before it; levels and luminances apart.
 #[repr(C)]
 #[derive(Drop)]
 pub struct RecordValues {
@@ -35,62 +36,56 @@ pub struct RecordValues {
     pub check: [u32; 18],
 }
 
-fn meter_number(m: Meter) -> u16
-    ensures { result ≡ meter_number m }
-{
-    match m {
-        Meter::Contact => 0,
-        Meter::Telescopic => 1,
-    }
-}
+impl From<Result<Job, Refusal>> for Numbers {
+    ghost from_gives = { λ answer numbers. numbers ≡ numbers_of answer };
 
-fn class_number(c: Class) -> u16
-    ensures { result ≡ class_number c }
-{
-    match c {
-        Class::Primary => 1,
-        Class::Secondary => 2,
-    }
-}
-
-fn numbers_of(answer: Answer) -> Numbers
-    ensures { result ≡ numbers_of answer }
-{
-    match answer {
-        Answer::Accepted(job) => {
-            let settings = job.settings;
-            let depth = settings.depth;
-            let tolerance = settings.tolerance;
-            let lamps = job.lamps;
-            let lux = lamps.0;
-            let rd = settings.reflectance;
-            let reflectance = rd.0;
-            let meter = settings.meter;
-            let class = settings.class;
-            let meter_in_numbers = meter_number(meter);
-            let class_in_numbers = class_number(class);
-            Numbers {
-                refusal: 0,
-                depth: depth,
-                meter: meter_in_numbers,
-                class: class_in_numbers,
-                reflectance: reflectance,
-                tolerance: tolerance,
-                lux: lux,
+    fn from(answer: Result<Job, Refusal>) -> Numbers {
+        match answer {
+            Ok(job) => {
+                let settings = job.settings;
+                Numbers {
+                    refusal: 0,
+                    depth: settings.depth,
+                    meter: settings.meter.into(),
+                    class: settings.class.into(),
+                    reflectance: settings.reflectance.0,
+                    tolerance: settings.tolerance,
+                    lux: job.lamps.0,
+                }
             }
-        }
-        Answer::Refused(r) => {
-            let number = record::refusal_number(r);
-            Numbers {
-                refusal: number,
+            Err(r) => Numbers {
+                refusal: r.into(),
                 depth: 0,
                 meter: 0,
                 class: 0,
                 reflectance: 0,
                 tolerance: 0,
                 lux: 0,
-            }
+            },
         }
+    }
+}
+
+// The items of a section, to the front of an array. By place: std says nothing of what an adapter of iter_mut wrote.
+fn fill<F: Field>(items: &Items<'_, F>, array: &mut [F])
+    requires { items.now.count ≤ length array.old }
+    ensures { array.new ≡ values items.now ++ drop items.now.count array.old }
+{
+    for i in 0..items.len() {
+        array[i] = items.get(i);
+    }
+}
+
+// By place: std says nothing of what an adapter of iter_mut wrote.
+fn fill_sweep(sweep: &Items<'_, Reading>, ddls: &mut [u16], luminances: &mut [u32])
+    requires { (sweep.now.count ≤ length ddls.old) × (sweep.now.count ≤ length luminances.old) }
+    ensures ddls { ddls.new ≡ ddls_of sweep.now ++ drop sweep.now.count ddls.old }
+    ensures luminances { luminances.new ≡ luminances_of sweep.now ++ drop sweep.now.count luminances.old }
+{
+    for i in 0..sweep.len() {
+        let reading = sweep.get(i);
+        ddls[i] = reading.ddl.0;
+        luminances[i] = reading.luminance.0;
     }
 }
 
@@ -98,25 +93,41 @@ fn numbers_of(answer: Answer) -> Numbers
 pub extern "C" fn record_read(bytes: &[u8]) -> RecordValues
     ensures { ValuesOf bytes.now result }
 {
-    let mut ddls = [0u16; 1024];
-    let mut luminances = [0u32; 1024];
-    let readings = record::fill_sweep(bytes, &mut ddls, &mut luminances);
-    let found = record::read_record(bytes);
-    let answer = found.answer;
-    let in_numbers = numbers_of(answer);
-    let settings = found.settings;
-    let lamps = found.lamps;
-    let check = found.check;
-    RecordValues {
-        answer: in_numbers,
-        given: found.given,
-        settings: settings,
-        sources: found.sources,
-        lamps: lamps,
-        readings: readings,
-        ddls: ddls,
-        luminances: luminances,
-        patches: found.patches,
-        check: check,
+    match record::read_record(bytes) {
+        Ok(found) => {
+            let mut settings = [0u16; 5];
+            let mut lamps = [0u16; 8];
+            let mut ddls = [0u16; 1024];
+            let mut luminances = [0u32; 1024];
+            let mut check = [0u32; 18];
+            fill(&found.settings, &mut settings);
+            fill(&found.lamps, &mut lamps);
+            fill_sweep(&found.sweep, &mut ddls, &mut luminances);
+            fill(&found.check, &mut check);
+            RecordValues {
+                answer: found.job.into(),
+                given: found.settings.len(),
+                settings,
+                sources: found.lamps.len(),
+                lamps,
+                readings: found.sweep.len(),
+                ddls,
+                luminances,
+                patches: found.check.len(),
+                check,
+            }
+        }
+        Err(r) => RecordValues {
+            answer: Err(r).into(),
+            given: 0,
+            settings: [0; 5],
+            sources: 0,
+            lamps: [0; 8],
+            readings: 0,
+            ddls: [0; 1024],
+            luminances: [0; 1024],
+            patches: 0,
+            check: [0; 18],
+        },
     }
 }

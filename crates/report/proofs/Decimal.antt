@@ -1,7 +1,7 @@
 -- The laws of numbers in decimal.
 -- Assumes nothing.
 use Prim.Native.Nat.{ℕ, zero, suc, ◌+◌, ◌-◌, ◌*◌, ◌/◌, ◌%◌, ◌^◌, ◌≤◌, ◌<◌}
-use mathlib.Core.Path.{◌≡◌, refl, ap, ◌∙◌}
+use mathlib.Core.Path.{◌≡◌, refl, sym, ap, ◌∙◌}
 use mathlib.Core.List.{List, [], ◌∷◌, ◌++◌}
 use mathlib.Core.Logic.{⊎_elim}
 use lib.ListN.{length, get_or, length-append, get_or-append}
@@ -10,7 +10,11 @@ use native.Mathlib.Nat.{not-suc-le-zero}
 use native.Mathlib.Omega.{arith}
 use borrow.Author.Tests.{lt-ltb, le-ltb}
 use Rattle.laws.proofs.Cases.{le_or_lt}
-use Rattle.report.specs.Text.{text, digit, digits_within, decimal, number_of, Digits, Decimal}
+use Rattle.std.specs.Prelude.{Option, Some, None, IfSome, IfNone}
+use Rattle.std.specs.Option.{unwrap_or}
+use Rattle.std.specs.Fmt.{decimal as printed}
+use Rattle.std.proofs.lemmas.Fmt.{AppendsLastDigit, decimal_from_appends, length-decimal-le_succ}
+use Rattle.report.specs.Text.{digit, digits_within, decimal, number_of, Digits, Decimal}
 
 -- more steps than enough change nothing
 same_digits : (f g n : ℕ) → n < f → n < g → digits_within f n ≡ digits_within g n
@@ -47,6 +51,42 @@ decimal_some n =
     (λ p. rw (decimal_one n p) (omega arith))
     (le_or_lt 10 n)
 
+ten_power : (k : ℕ) → 0 < 10 ^ k
+ten_power zero = omega arith
+ten_power (suc k) = omega (arith, ten_power k)
+
+-- as many as the power of ten that the number reaches has
+pub decimal_reaches : (k n : ℕ) → 10 ^ k ≤ n → k < length (decimal n)
+decimal_reaches zero n h = decimal_some n
+decimal_reaches (suc k) n h =
+    let more : 10 ≤ n = omega (arith, ten_power k, h) in
+    rw (decimal_more n more, length-append) (omega (arith, decimal_reaches k (n / 10) (omega (arith, h))))
+
+decimal_length : (k n : ℕ) → 10 ^ k ≤ n → n < 10 * 10 ^ k → k + 1 ≡ length (decimal n)
+decimal_length k n h l = omega (arith, decimal_reaches k n h, decimal_fits k n (grind (arith, l)))
+
+zero_length : 1 ≡ length (decimal 0)
+unfolding decimal digits_within
+zero_length = refl
+
+-- as many as its logarithm says, with 0 for that of 0
+pub decimal_counted : (power : Option ℕ) (n : ℕ) → IfNone power (n ≡ 0) → IfSome power (λ k. 10 ^ k ≤ n) → IfSome power (λ k. n < 10 * 10 ^ k)
+    → unwrap_or power 0 + 1 ≡ length (decimal n)
+decimal_counted None n none h l = rw none zero_length
+decimal_counted (Some k) n none h l = decimal_length k n h l
+
+-- what the library prints of a number
+appends : AppendsLastDigit digits_within
+unfolding digits_within
+appends = record {
+  one = λ k n h. simp (lt-ltb n 10 h);
+  more = λ k n h. simp (le-ltb n 10 h);
+}
+
+pub printed_decimal : (n : ℕ) → n < 2 ^ 64 → printed n ≡ decimal n
+unfolding decimal
+printed_decimal n h = sym (decimal_from_appends digits_within appends (suc n) n h (omega (arith, length-decimal-le_succ n h)))
+
 -- ---- what is known of every number
 
 number_more : (v : ℕ) (xs : List ℕ) (x : ℕ) → number_of v (xs ++ (x ∷ [])) ≡ number_of v xs * 10 + (x - 48)
@@ -68,7 +108,7 @@ one_more xs x d p q = record { low = λ i l. at (λ y. 48 ≤ y) i l (d.low i) p
         (le_or_lt (length xs) i)
 
 first_digit : (n : ℕ) → n < 10 → Decimal n
-unfolding number_of text
+unfolding number_of
 first_digit n h = record {
   digits = rw (decimal_one n h) (one_more [] (digit n) no_digits (omega arith) (omega arith));
   stands_for = rw (decimal_one n h) (omega arith);

@@ -12,7 +12,8 @@ use Rattle.engine.specs.Sound.{soundness}
 use Rattle.engine.specs.Nearest.{nearest_answer, nearest_lent}
 use Rattle.engine.specs.Even.{even_answer, even_lent}
 use Rattle.engine.specs.Check.{check_answer}
-use Rattle.report.specs.Text.{text, decimal, digits_within}
+use lib.Chars.{codes}
+use Rattle.report.specs.Text.{decimal, digits_within}
 use Rattle.report.specs.Report.{report_of, entries}
 use Rattle.report.specs.Facts.{ReportFacts}
 use Rattle.report.proofs.Lines.{whole_lines}
@@ -22,8 +23,8 @@ front : (bytes : List ℕ) (words : ℕ) → report_of (take 6251 bytes) words �
 unfolding report_of nearest_answer nearest_lent even_answer even_lent check_answer soundness answer_of
 front bytes words = rw (sections_front bytes) refl
 
-empty : (words : ℕ) → report_of [] words ≡ text "refused 2\n"
-unfolding report_of entries nearest_answer soundness answer_of sections layout_of count_of text decimal digits_within
+empty : (words : ℕ) → report_of [] words ≡ codes "refused 2\n"
+unfolding report_of entries nearest_answer soundness answer_of sections layout_of count_of decimal digits_within
 empty words = refl
 
 words_enough : (bytes : List ℕ) (words : ℕ) → 8192 ≤ words → report_of bytes words ≡ report_of bytes 8192

@@ -1,4 +1,5 @@
 pub mod Decimal
+pub mod Pairs
 pub mod Putting
 pub mod Reporting
 pub mod Lines

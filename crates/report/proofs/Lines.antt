@@ -6,7 +6,6 @@ use mathlib.Core.Bool.{not}
 use mathlib.Core.List.{List, [], ◌∷◌, ◌++◌, append_assoc}
 use mathlib.Core.Logic.{◌⊎◌, inl, inr}
 use lib.Dec.{T, eqb}
-use lib.ListN.{length}
 use native.Mathlib.Omega.{arith}
 use mir.Facts.{and_yes, yes_and, no_eqb}
 use Rattle.laws.specs.Fill.{tab}
@@ -15,8 +14,10 @@ use Rattle.curve.specs.declared.RoomMark.{RoomMark}
 use Rattle.curve.specs.declared.RoomMark.TheVariants.{Low, High}
 use Rattle.contrast.specs.declared.Verdict.{Verdict}
 use Rattle.contrast.specs.declared.Verdict.TheVariants.{Pass, Fail}
-use Rattle.report.specs.Text.{text, decimal, Digits}
-use Rattle.report.specs.Report.{refused_line, range_line, room_line, even_line, verdict_line, unmeasured_line, row, rows, lines, report_of, ReportOutcome, by_nearest, by_even, by_check, unmeasured, passes, fails}
+use Rattle.std.specs.Prelude.{Option, Some, None}
+use lib.Chars.{codes}
+use Rattle.report.specs.Text.{decimal, Digits}
+use Rattle.report.specs.Report.{refused_line, range_line, room_line, even_line, check_line, row, rows, lines, report_of, ReportOutcome, by_nearest, by_even, by_check, unmeasured, passes, fails}
 use Rattle.report.specs.Facts.{has_no_feed, Lines}
 use Rattle.report.proofs.Decimal.{decimal_rule}
 use Rattle.report.proofs.Reporting.{some_report}
@@ -45,8 +46,8 @@ number_no_feed n = digits_no_feed (decimal n) (decimal_rule n).digits
 
 -- ---- lines, put together
 
-one_line : (xs : List ℕ) → T (has_no_feed xs) → Lines 1 (xs ++ text "\n")
-unfolding Lines text
+one_line : (xs : List ℕ) → T (has_no_feed xs) → Lines 1 (xs ++ codes "\n")
+unfolding Lines
 one_line xs h = record { line = xs; rest = []; no_feed = h; is = refl; after = refl }
 
 together : (m n : ℕ) (xs ys : List ℕ) → Lines m xs → Lines n ys → Lines (m + n) (xs ++ ys)
@@ -73,12 +74,12 @@ together (suc m) n xs ys f l =
 number_after : (xs : List ℕ) (n : ℕ) → T (has_no_feed xs) → T (has_no_feed (xs ++ decimal n))
 number_after xs n h = no_feed_append xs (decimal n) h (number_no_feed n)
 
-field_after : (xs : List ℕ) (n : ℕ) → T (has_no_feed xs) → T (has_no_feed (xs ++ text " " ++ decimal n))
-unfolding has_no_feed text
-field_after xs n h = number_after (xs ++ text " ") n (no_feed_append xs (text " ") h tt)
+field_after : (xs : List ℕ) (n : ℕ) → T (has_no_feed xs) → T (has_no_feed (xs ++ codes " " ++ decimal n))
+unfolding has_no_feed
+field_after xs n h = number_after (xs ++ codes " ") n (no_feed_append xs (codes " ") h tt)
 
-words : T (has_no_feed (text "refused ")) × T (has_no_feed (text "range ")) × T (has_no_feed (text "even "))
-unfolding has_no_feed text
+words : T (has_no_feed (codes "refused ")) × T (has_no_feed (codes "range ")) × T (has_no_feed (codes "even "))
+unfolding has_no_feed
 words = (tt, tt, tt)
 
 refused : (n : ℕ) → Lines 1 (refused_line n)
@@ -88,21 +89,18 @@ range : (jlo jhi n : ℕ) → Lines 1 (range_line jlo jhi n)
 range jlo jhi n = one_line _ (field_after _ n (field_after _ jhi (number_after _ jlo words.1)))
 
 room : (mark : RoomMark) → Lines 1 (room_line mark)
-unfolding has_no_feed text
-room Low = one_line (text "room low") tt
-room High = one_line (text "room high") tt
+unfolding has_no_feed
+room Low = one_line (codes "room low") tt
+room High = one_line (codes "room high") tt
 
 even_line_lem : (worst : ℕ) → Lines 1 (even_line worst)
 even_line_lem worst = one_line _ (number_after _ worst words.2)
 
-verdict : (v : Verdict) → Lines 1 (verdict_line v)
-unfolding has_no_feed text
-verdict Pass = one_line (text "check pass") tt
-verdict Fail = one_line (text "check fail") tt
-
-unmeasured_lem : Lines 1 unmeasured_line
-unfolding has_no_feed text
-unmeasured_lem = one_line (text "check none") tt
+check_line_lem : (check : Option Verdict) → Lines 1 (check_line check)
+unfolding has_no_feed
+check_line_lem None = one_line (codes "check none") tt
+check_line_lem (Some Pass) = one_line (codes "check pass") tt
+check_line_lem (Some Fail) = one_line (codes "check fail") tt
 
 one_row : (p nearest even : ℕ) → Lines 1 (row p nearest even)
 one_row p nearest even = one_line _ (field_after _ even (field_after _ nearest (number_no_feed p)))
@@ -114,23 +112,23 @@ all_rows nearest even (suc n) =
     let sum : n + 1 ≡ suc n = omega arith in
     subst (λ (k : ℕ). Lines k (rows nearest even (suc n))) sum (together n 1 _ _ (all_rows nearest even n) (one_row n _ _))
 
-all_lines : (jlo jhi n : ℕ) (mark : RoomMark) (worst : ℕ) (check nearest even : List ℕ) → Lines 1 check → Lines 260 (lines jlo jhi n mark worst check nearest even)
-all_lines jlo jhi n mark worst check nearest even c =
+all_lines : (jlo jhi n : ℕ) (mark : RoomMark) (worst : ℕ) (check : Option Verdict) (nearest even : List ℕ) → Lines 260 (lines jlo jhi n mark worst check nearest even)
+all_lines jlo jhi n mark worst check nearest even =
     together
     4
     256
     _
     _
-    (together 3 1 _ _ (together 2 1 _ _ (together 1 1 _ _ (range jlo jhi n) (room mark)) (even_line_lem worst)) c)
+    (together 3 1 _ _ (together 2 1 _ _ (together 1 1 _ _ (range jlo jhi n) (room mark)) (even_line_lem worst)) (check_line_lem check))
     (all_rows nearest even 256)
 
 lines_by : {bytes work report : List ℕ} → ReportOutcome bytes work report → Lines 1 report ⊎ Lines 260 report
 lines_by (by_nearest o) = inl (refused _)
 lines_by (by_even o p) = inl (refused _)
 lines_by (by_check t q) = inl (refused _)
-lines_by (unmeasured t q) = inr (all_lines _ _ _ _ _ _ _ _ unmeasured_lem)
-lines_by (passes t q) = inr (all_lines _ _ _ _ _ _ _ _ (verdict Pass))
-lines_by (fails t q) = inr (all_lines _ _ _ _ _ _ _ _ (verdict Fail))
+lines_by (unmeasured {nearest = n} {even = e} t q) = inr (all_lines _ _ _ _ _ None n e)
+lines_by (passes {nearest = n} {even = e} t q) = inr (all_lines _ _ _ _ _ (Some Pass) n e)
+lines_by (fails {nearest = n} {even = e} t q) = inr (all_lines _ _ _ _ _ (Some Fail) n e)
 
 -- the report asks of the work its length alone, so words of zero stand for any
 pub whole_lines : (bytes : List ℕ) (words : ℕ) → Lines 1 (report_of bytes words) ⊎ Lines 260 (report_of bytes words)

@@ -1,40 +1,35 @@
 -- The report, by the outcomes of the three operations.
 -- Assumes nothing.
-use Prim.Native.Nat.{ℕ}
-use mathlib.Core.Path.{◌≡◌, ap, ◌∙◌}
+use Prim.Native.Nat.{ℕ, ◌≤◌}
+use mathlib.Core.Path.{◌≡◌, sym, ◌∙◌}
 use mathlib.Core.List.{List}
 use lib.IntN.{ℤ}
-use lib.ListN.{length, length-take}
-use native.Mathlib.Omega.{arith}
+use lib.ListN.{length}
 use Rattle.record.specs.Refusals.{refusal_number}
 use Rattle.record.specs.declared.Refusal.{Refusal}
+use Rattle.contrast.specs.declared.Verdict.{Verdict}
 use Rattle.contrast.specs.declared.Verdict.TheVariants.{Pass, Fail}
+use Rattle.std.specs.Prelude.{Option, Some, None, Result, Ok, Err}
 use Rattle.engine.specs.Nearest.{nearest_answer, nearest_lent, nearest_values, NearestOutcome}
-use Rattle.engine.specs.Even.{even_answer, even_lent, even_values, EvenOutcome}
+use Rattle.engine.specs.Even.{even_answer, even_lent, even_values, EvenOutcome, EvenPromise}
 use Rattle.engine.specs.Check.{check_answer, check_values, CheckOutcome}
 use Rattle.engine.specs.declared.NearestFigures.{NearestFigures}
-use Rattle.engine.specs.declared.NearestAnswer.{NearestAnswer}
-use Rattle.engine.specs.declared.NearestAnswer.TheVariants as nearest
-use Rattle.engine.specs.declared.EvenAnswer.{EvenAnswer}
-use Rattle.engine.specs.declared.EvenAnswer.TheVariants as even
-use Rattle.engine.specs.declared.CheckAnswer.{CheckAnswer}
-use Rattle.engine.specs.declared.CheckAnswer.TheVariants as check
+use Rattle.engine.specs.declared.EvenFigures.{EvenFigures}
 use Rattle.engine.proofs.NearestOutcomes.{some_outcome}
 use Rattle.engine.proofs.EvenOutcomes.{some_even}
 use Rattle.engine.proofs.CheckOutcomes.{some_check}
-use Rattle.report.specs.Report.{refused_line, report_by, report_of, entries, places, ReportOutcome, by_nearest, by_even, by_check, unmeasured, passes, fails, ReportPromise}
-use Rattle.report.specs.Putting.{Put}
+use Rattle.report.specs.Report.{refused_line, lines_of, report_by, report_of, entries, places, ReportOutcome, by_nearest, by_even, by_check, unmeasured, passes, fails, ReportPromise, WordsKept}
 
 module _ {bytes work first second : List ℕ} {third : List ℤ} where
-  by_answers : (n : NearestAnswer) (e : EvenAnswer) (c : CheckAnswer) → NearestOutcome bytes entries first (nearest_values n)
+  by_answers : (n : Result NearestFigures Refusal) (e : Result EvenFigures Refusal) (c : Result (Option Verdict) Refusal) → NearestOutcome bytes entries first (nearest_values n)
       → EvenOutcome bytes entries work second (even_values e) → CheckOutcome bytes places third (check_values c)
       → ReportOutcome bytes work (report_by n e c first second)
-  by_answers (nearest.Refused r) e c o p q = by_nearest o
-  by_answers (nearest.Made f) (even.Refused r) c o p q = by_even o p
-  by_answers (nearest.Made f) (even.Made g) (check.Refused r) o p q = by_check (record { error = _; made = o; even_made = p }) q
-  by_answers (nearest.Made f) (even.Made g) check.NotMeasured o p q = unmeasured (record { error = _; made = o; even_made = p }) q
-  by_answers (nearest.Made f) (even.Made g) (check.Judged Pass) o p q = passes (record { error = _; made = o; even_made = p }) q
-  by_answers (nearest.Made f) (even.Made g) (check.Judged Fail) o p q = fails (record { error = _; made = o; even_made = p }) q
+  by_answers (Err r) e c o p q = by_nearest o
+  by_answers (Ok f) (Err r) c o p q = by_even o p
+  by_answers (Ok f) (Ok g) (Err r) o p q = by_check (record { error = _; made = o; even_made = p }) q
+  by_answers (Ok f) (Ok g) (Ok None) o p q = unmeasured (record { error = _; made = o; even_made = p }) q
+  by_answers (Ok f) (Ok g) (Ok (Some Pass)) o p q = passes (record { error = _; made = o; even_made = p }) q
+  by_answers (Ok f) (Ok g) (Ok (Some Fail)) o p q = fails (record { error = _; made = o; even_made = p }) q
 
 -- every record comes out in one of these ways
 pub some_report : (bytes work : List ℕ) → ReportOutcome bytes work (report_of bytes (length work))
@@ -45,24 +40,30 @@ some_report bytes work =
     (some_even bytes entries work)
     (some_check bytes places)
 
--- by the answer of the nearest table
-pub report_refused : (bytes : List ℕ) (words : ℕ) {r : Refusal} → nearest_answer bytes 256 ≡ nearest.Refused r → refused_line (refusal_number r) ≡ report_of bytes words
-unfolding report_of entries
-report_refused bytes words e = rw e
+-- by the answers of the operations, up to the first refusal
+module _ (bytes : List ℕ) (words : ℕ) where
+  pub nearest_refuses : {r : Refusal} → Err r ≡ nearest_answer bytes 256 → refused_line (refusal_number r) ≡ report_of bytes words
+  unfolding report_of entries
+  nearest_refuses e = rw (sym e)
 
-pub report_made : (bytes : List ℕ) (words : ℕ) {f : NearestFigures} {first : List ℕ} → nearest_answer bytes 256 ≡ nearest.Made f
-    → first ≡ nearest_lent bytes entries
-    → report_by (nearest.Made f) (even_answer bytes 256 words) (check_answer bytes 17) first (even_lent bytes entries words) ≡ report_of bytes words
-unfolding report_of entries places
-report_made bytes words e l = rw (e, l)
+  module _ {f : NearestFigures} (made : Ok f ≡ nearest_answer bytes 256) where
+    pub even_refuses : {r : Refusal} → Err r ≡ even_answer bytes 256 words → refused_line (refusal_number r) ≡ report_of bytes words
+    unfolding report_of entries
+    even_refuses e = rw (sym made, sym e)
 
--- what was put at the beginning of a buffer is the report
-pub reported : {bytes work piece before text : List ℕ} {size : ℕ} → piece ≡ report_of bytes (length work) → Put piece before text 0 size
-    → ReportPromise bytes work text size
-reported {bytes = bytes} {work = work} {text = text} {size = size} e p =
-    let front = p.front ∙ e in
-    record {
-      fits = omega (arith, p.ends, ap length p.front, length-take size text);
-      report = front;
-      outcome = rw front (some_report bytes work);
-    }
+    pub check_refuses : {g : EvenFigures} {r : Refusal} → Ok g ≡ even_answer bytes 256 words → Err r ≡ check_answer bytes 17 → refused_line (refusal_number r) ≡ report_of bytes words
+    unfolding report_of entries places
+    check_refuses e k = rw (sym made, sym e, sym k)
+
+    pub all_made : {g : EvenFigures} {check : Option Verdict} {nearest even : List ℕ} → Ok g ≡ even_answer bytes 256 words → Ok check ≡ check_answer bytes 17
+        → nearest ≡ nearest_lent bytes entries → even ≡ even_lent bytes entries words → lines_of f g.worst check nearest even ≡ report_of bytes words
+    unfolding report_of entries places
+    all_made e k n v = rw (sym made, sym e, sym k, n, v)
+
+-- the words lent, by what the even table promises of them
+pub kept : {bytes table work work_after : List ℕ} {answer : Result EvenFigures Refusal} → EvenPromise bytes entries table work work_after answer → WordsKept bytes work work_after
+kept p = record { size = p.words_size; later = p.words_later; refused = λ h. p.words_refused (p.answers ∙ h) }
+
+-- a text that is the report, and no longer than there is room for
+pub reported : {bytes work text : List ℕ} → length text ≤ 4694 → text ≡ report_of bytes (length work) → ReportPromise bytes work text
+reported {bytes = bytes} {work = work} h e = record { fits = h; report = e; outcome = rw e (some_report bytes work) }

@@ -1,6 +1,5 @@
 -- What follows from the definition of the report.
-use Rattle.std.specs.Prelude.{ℕ, zero, suc, ◌≤◌, ◌≡◌, Bool, true, not, ◌&&◌, List, [], ◌∷◌, ◌++◌, ◌⊎◌, T, eqb, take}
-use Rattle.report.specs.Text.{text}
+use Rattle.std.specs.Prelude.{ℕ, zero, suc, ◌≤◌, ◌≡◌, Bool, true, not, ◌&&◌, List, [], ◌∷◌, ◌++◌, ◌⊎◌, T, eqb, take, codes}
 use Rattle.report.specs.Report.{report_of}
 
 -- no byte is a line feed, 10
@@ -25,7 +24,7 @@ pub record ReportFacts : Type 0 where
   -- what follows the first 6,251 bytes of an input changes nothing, so the program reads no more of it
   pub front : (bytes : List ℕ) (words : ℕ) → report_of (take 6251 bytes) words ≡ report_of bytes words
   -- the report on empty input
-  pub empty : (words : ℕ) → report_of [] words ≡ text "refused 2\n"
+  pub empty : (words : ℕ) → report_of [] words ≡ codes "refused 2\n"
   -- from 8,192 words on their number does not show
   pub words_enough : (bytes : List ℕ) (words : ℕ) → 8192 ≤ words → report_of bytes words ≡ report_of bytes 8192
   -- a report is one line where an operation refuses the record (`refused_line`), else 260 (`lines`)

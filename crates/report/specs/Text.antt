@@ -1,12 +1,5 @@
--- Text as bytes: words, and numbers in decimal.
-use Rattle.std.specs.Prelude.{ℕ, zero, suc, ◌+◌, ◌-◌, ◌*◌, ◌/◌, ◌%◌, ◌≤◌, ◌<◌, cond, ◌≡◌, List, [], ◌∷◌, ◌++◌, ltb, length, get_or}
-use Prim.Native.Char.{code}
-use Prim.Native.String.{String, [] as end, ◌∷◌ as ◌then◌}
-
--- the codes of its characters; those of the words here are ASCII
-unfoldable pub text : String → List ℕ
-text end = []
-text (c then s) = code c ∷ text s
+-- Numbers in decimal, as bytes.
+use Rattle.std.specs.Prelude.{ℕ, zero, suc, ◌+◌, ◌-◌, ◌*◌, ◌/◌, ◌%◌, ◌≤◌, ◌<◌, cond, ◌≡◌, List, [], ◌∷◌, ◌++◌, ltb, length, get_or, codes}
 
 -- the code of a digit, 0 to 9
 abbrev pub digit : ℕ → ℕ
@@ -38,4 +31,4 @@ pub record Decimal (n : ℕ) : Type 0 where
   pub digits : Digits (decimal n)
   pub stands_for : number_of 0 (decimal n) ≡ n
   pub no_leading_zero : 0 < n → 48 < get_or (decimal n) 0 0
-  pub zero_alone : n ≡ 0 → decimal n ≡ text "0"
+  pub zero_alone : n ≡ 0 → decimal n ≡ codes "0"

@@ -2,7 +2,6 @@
 -- Assumes nothing.
 use mathlib.Core.Path.{◌≡◌, refl, sym, ◌∙◌}
 use mathlib.Core.Bool.{true, false, ◌&&◌}
-use mathlib.Core.List.{List}
 use mathlib.Core.Logic.{⊎_elim}
 use Prim.Native.Nat.{ℕ, ◌+◌, ◌-◌, ◌≤◌, ◌<◌}
 use native.Mathlib.Omega.{arith}
@@ -15,7 +14,7 @@ use Rattle.gsdf.specs.Ends.{below_table, above_table}
 use Rattle.gsdf.proofs.TableRule.{jnd_first, jnd_200, jnd_300, jnd_last}
 use Rattle.gsdf.proofs.Ends.{below_is, above_is}
 use Rattle.units.specs.declared.JndIndex.{JndIndex}
-use Rattle.target.specs.Target.{range_of, too_narrow, clearly_wide, HasRange}
+use Rattle.target.specs.Target.{range_of, too_narrow, clearly_wide}
 use Rattle.gsdf.proofs.Laws.{luminance_mono, luminance_whole, index_low, index_high, index_mono, index_max, luminance_index}
 
 module _ (black white : ℕ) where
@@ -42,9 +41,6 @@ module _ (black white : ℕ) where
   range_between low order = omega (arith, index_mono black white low order)
 
 -- as the code finds it
-
-pub range_order : {table : List ℕ} {black white : ℕ} → HasRange table black white → index_of black ≤ index_of white
-range_order {black = black} {white = white} h = index_mono black white h.low.low h.order
 
 pub range_is : (low high : JndIndex) (black white : ℕ) → low.0 ≡ index_of black → high.0 ≡ index_of white
     → record { low = low; high = high; range = record { 0 = high.0 - low.0 } } ≡ range_of black white

@@ -1,8 +1,7 @@
 -- The index range of a display, and the target luminance of each P-value.
-use Rattle.std.specs.Prelude.{ℕ, ◌+◌, ◌-◌, ◌*◌, ◌/◌, ◌≤◌, ◌≡◌, List, Bool, ◌&&◌, leb, ltb}
+use Rattle.std.specs.Prelude.{ℕ, ◌+◌, ◌-◌, ◌*◌, ◌/◌, ◌≤◌, List, Bool, ◌&&◌, leb, ltb}
 use Rattle.laws.specs.Fill.{tab}
-use Rattle.gsdf.specs.Table.{table_b1}
-use Rattle.gsdf.specs.DisplayFunction.{jnd_luminance, luminance_of, index_of, InTable}
+use Rattle.gsdf.specs.DisplayFunction.{jnd_luminance, luminance_of, index_of}
 use Rattle.target.specs.declared.IndexRange.{IndexRange}
 
 -- Jlo, Jhi and N of document 01, by the luminances of black and white
@@ -34,16 +33,8 @@ target_at low range top p = luminance_of (index_at low range top p)
 unfoldable pub targets_of : (low range top : ℕ) → List ℕ
 targets_of low range top = tab (target_at low range top) (top + 1)
 
--- black and white are in the table, and white is not below black
-pub record HasRange (table : List ℕ) (black white : ℕ) : Type 0 where
-  pub lent : table ≡ table_b1
-  pub low : InTable black
-  pub high : InTable white
-  pub order : black ≤ white
-
 -- a range of indices, and P-values from 0 to at most 1,023
-pub record Aims (table : List ℕ) (low range top : ℕ) : Type 0 where
-  pub lent : table ≡ table_b1
+pub record Aims (low range top : ℕ) : Type 0 where
   pub first : 100 ≤ low
   pub last : low + range ≤ 102300
   pub some : 1 ≤ top

@@ -2,11 +2,13 @@
 #![tactic(auto)]
 
 ghost use Rattle.std.specs.Prelude.{◌≡◌, ◌++◌, ◌+◌, ◌<◌, ◌≤◌, length, drop};
-ghost use Rattle.target.specs.Target.{range_of, too_narrow, clearly_wide, target_at, targets_of, HasRange, Aims};
+ghost use Rattle.gsdf.specs.DisplayFunction.{InTable};
+ghost use Rattle.target.specs.Target.{range_of, too_narrow, clearly_wide, target_at, targets_of, Aims};
 
 use units::{JndIndex, JndRange, Luminance, PValue};
 
-// Jlo and Jhi, the indices of black and of white, and N, how far they are apart.
+// Jlo and Jhi, the indices of black and of white, and N, how far they are apart. That they are indices is asked by `Aims`, and is no part of the type:
+// the definitions build such ranges, and each would need a proof.
 #[derive(Clone, Copy)]
 pub struct IndexRange {
     pub low: JndIndex,
@@ -14,83 +16,56 @@ pub struct IndexRange {
     pub range: JndRange,
 }
 
-// The range of a display, with Table B-1 lent.
-pub fn index_range(table: &[u32; 1023], black: Luminance, white: Luminance) -> IndexRange
-    requires { HasRange table.now black.0 white.0 }
+// The range of a display; N is 0 where white is the darker.
+pub fn index_range(black: Luminance, white: Luminance) -> IndexRange
+    requires { InTable black.0 × InTable white.0 }
     ensures { result ≡ range_of black.0 white.0 }
 {
-    let low = gsdf::index_in(table, black);
-    let high = gsdf::index_in(table, white);
-    let first = low.0;
-    let last = high.0;
-    let range = last - first;
-    IndexRange {
-        low: low,
-        high: high,
-        range: JndRange(range),
-    }
+    let low = gsdf::index_of(black);
+    let high = gsdf::index_of(white);
+    let range = JndRange(high.0.saturating_sub(low.0));
+    IndexRange { low, high, range }
 }
 
-// Test 10.
-pub fn is_too_narrow(range: JndRange) -> bool
-    ensures { result ≡ too_narrow range.0 }
-{
-    let n = range.0;
-    n < 10000
-}
-
-// True only where tests 8, 9 and 10 pass, told by T(1), T(200), T(300) and T(1023) alone, without a copy of Table B-1, as it can be of most
-// displays; false says nothing. Takes the first and the last reading, and the light added to them; a sum may need more than 32 bits.
+// True only where tests 8, 9 and 10 pass, told by T(1), T(200), T(300) and T(1023) alone, as it can be of most displays; false says nothing.
+// Takes the first and the last reading, and the light added to them; a sum may need more than 32 bits. No operation calls it: it stands for callers in
+// Rust.
 pub fn is_clearly_wide(added: Luminance, first: Luminance, last: Luminance) -> bool
     ensures { result ≡ clearly_wide (added.0 + first.0) (added.0 + last.0) }
 {
-    let light = added.0 as u64;
-    let black = light + first.0 as u64;
-    let white = light + last.0 as u64;
+    let light = u64::from(added.0);
+    let black = light + u64::from(first.0);
+    let white = light + u64::from(last.0);
     let dark = (500 <= black) & (black < 82179);
     let bright = (233990 <= white) & (white <= 39934040);
     dark & bright
 }
 
-// The target of one P-value, with Table B-1 lent.
-fn target_at(
-    table: &[u32; 1023],
-    low: JndIndex,
-    range: JndRange,
-    top: PValue,
-    p: PValue,
-) -> Luminance
-    requires { Aims table.now low.0 range.0 top.0 × (p.0 ≤ top.0) }
-    ensures { result.0 ≡ target_at low.0 range.0 top.0 p.0 }
-{
-    let first = low.0;
-    let width = range.0;
-    let last = top.0 as u32;
-    let value = p.0 as u32;
-    let product = width * value;
-    let part = product / last;
-    let index = first + part;
-    gsdf::luminance_in(table, JndIndex(index))
-}
+impl IndexRange {
+    // Test 10.
+    pub fn is_too_narrow(self) -> bool
+        ensures { result ≡ too_narrow self.range.0 }
+    {
+        self.range.0 < 10000
+    }
 
-// The targets of all P-values from 0 to top, into the front of a slice, with Table B-1 lent.
-pub fn fill_targets(
-    table: &[u32; 1023],
-    low: JndIndex,
-    range: JndRange,
-    top: PValue,
-    targets: &mut [u32],
-)
-    requires { Aims table.now low.0 range.0 top.0 × (top.0 < length targets.old) }
-    ensures { targets.new ≡ targets_of low.0 range.0 top.0 ++ drop (top.0 + 1) targets.old }
-{
-    let last = top.0;
-    let values = last as usize + 1;
-    let mut p: usize = 0;
-    while p < values {
-        let value = p as u16;
-        let target = target_at(table, low, range, top, PValue(value)).0;
-        targets[p] = target;
-        p += 1;
+    // The target of P-value p, of those from 0 to top.
+    pub fn target_at(self, top: PValue, p: PValue) -> Luminance
+        requires { Aims self.low.0 self.range.0 top.0 × (p.0 ≤ top.0) }
+        ensures { result.0 ≡ target_at self.low.0 self.range.0 top.0 p.0 }
+    {
+        let product = self.range.0 * u32::from(p.0);
+        let index = self.low.0 + product / u32::from(top.0);
+        gsdf::luminance_of(JndIndex(index))
+    }
+
+    // The targets of all P-values from 0 to top, into the front of a slice.
+    pub fn fill_targets(self, top: PValue, targets: &mut [u32])
+        requires { Aims self.low.0 self.range.0 top.0 × (top.0 < length targets.old) }
+        ensures { targets.new ≡ targets_of self.low.0 self.range.0 top.0 ++ drop (top.0 + 1) targets.old }
+    {
+        for (p, target) in targets[..=top.0 as usize].iter_mut().enumerate() {
+            *target = self.target_at(top, PValue(p as u16)).0;
+        }
     }
 }

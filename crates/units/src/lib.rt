@@ -6,11 +6,11 @@
 pub struct Lux(pub u16);
 
 // Luminance in units of 0.0001 cd/m²; Table B-1 runs from 500 to 39,934,040.
-#[derive(Clone, Copy)]
+#[derive(Clone, Copy, PartialEq, Eq, PartialOrd, Ord)]
 pub struct Luminance(pub u32);
 
 // Drive level of the display (DDL), from 0 to 255, 511 or 1,023 by its depth.
-#[derive(Clone, Copy)]
+#[derive(Clone, Copy, PartialEq, Eq, PartialOrd, Ord)]
 pub struct Ddl(pub u16);
 
 // Presentation value, 0 to 255.

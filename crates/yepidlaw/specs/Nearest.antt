@@ -1,21 +1,15 @@
 -- The nearest table's result in bare numbers, as C takes it.
-use Rattle.std.specs.Prelude.{ℕ, ◌≡◌, List, length}
+use Rattle.std.specs.Prelude.{ℕ, ◌≡◌, List, Result, Ok, Err, length}
 use Rattle.record.specs.Refusals.{refusal_number}
-use Rattle.curve.specs.declared.RoomMark.{RoomMark}
-use Rattle.curve.specs.declared.RoomMark.TheVariants.{Low, High}
+use Rattle.record.specs.declared.Refusal.{Refusal}
+use Rattle.curve.specs.Room.{mark_number}
 use Rattle.engine.specs.Nearest.{nearest_answer, NearestPromise}
-use Rattle.engine.specs.declared.NearestAnswer.{NearestAnswer}
-use Rattle.engine.specs.declared.NearestAnswer.TheVariants.{Made, Refused}
+use Rattle.engine.specs.declared.NearestFigures.{NearestFigures}
 use Rattle.yepidlaw.specs.declared.NearestResult.{NearestResult}
 
--- the room mark in the result; document 01 has words alone
-abbrev pub mark_number : RoomMark → ℕ
-mark_number Low = 0
-mark_number High = 1
-
 -- refusal 0 and the figures, or the refusal's number and 0 for each figure
-abbrev pub nearest_result_of : NearestAnswer → NearestResult
-nearest_result_of (Made figures) = record {
+abbrev pub nearest_result_of : Result NearestFigures Refusal → NearestResult
+nearest_result_of (Ok figures) = record {
   refusal = 0;
   jlo = figures.indices.low.0;
   jhi = figures.indices.high.0;
@@ -23,7 +17,7 @@ nearest_result_of (Made figures) = record {
   mark = mark_number figures.mark;
   error = figures.error.0;
 }
-nearest_result_of (Refused r) = record {
+nearest_result_of (Err r) = record {
   refusal = refusal_number r;
   jlo = 0;
   jhi = 0;

@@ -1,17 +1,18 @@
 // The engine's operations through the C ABI; include/yepidlaw.h declares them.
+// C has no Result, Option or enum: each answer is a struct with the refusal's number, or 0, in front.
 #![tactic(auto)]
 
 ghost use Rattle.std.specs.Prelude.{◌≡◌};
-ghost use Rattle.yepidlaw.specs.Nearest.{mark_number, nearest_result_of, NearestCall};
+ghost use Rattle.yepidlaw.specs.Nearest.{nearest_result_of, NearestCall};
 ghost use Rattle.yepidlaw.specs.Even.{even_result_of, EvenCall};
 ghost use Rattle.yepidlaw.specs.Check.{verdict_number, check_result_of, CheckCall};
 
 use contrast::Verdict;
-use curve::RoomMark;
-use engine::{CheckAnswer, EvenAnswer, NearestAnswer};
+use engine::{EvenFigures, NearestFigures};
+use record::Refusal;
 
 #[repr(C)]
-#[derive(Drop)]
+#[derive(Default, Drop)]
 pub struct NearestResult {
     // 0 where the table was made; else the refusal's number, and 0 in every other field.
     pub refusal: u32,
@@ -26,50 +27,23 @@ pub struct NearestResult {
     pub error: u32,
 }
 
-fn mark_number(mark: RoomMark) -> u32
-    ensures { result ≡ mark_number mark }
-{
-    match mark {
-        RoomMark::Low => 0,
-        RoomMark::High => 1,
-    }
-}
+impl From<Result<NearestFigures, Refusal>> for NearestResult {
+    ghost from_gives = { λ answer result. result ≡ nearest_result_of answer };
 
-fn nearest_result(answer: NearestAnswer) -> NearestResult
-    ensures { result ≡ nearest_result_of answer }
-{
-    match answer {
-        NearestAnswer::Made(figures) => {
-            let indices = figures.indices;
-            let low = indices.low;
-            let high = indices.high;
-            let width = indices.range;
-            let room = figures.mark;
-            let largest = figures.error;
-            let jlo = low.0;
-            let jhi = high.0;
-            let range = width.0;
-            let error = largest.0;
-            let mark = mark_number(room);
-            NearestResult {
+    fn from(answer: Result<NearestFigures, Refusal>) -> NearestResult {
+        match answer {
+            Ok(figures) => NearestResult {
                 refusal: 0,
-                jlo: jlo,
-                jhi: jhi,
-                range: range,
-                mark: mark,
-                error: error,
-            }
-        }
-        NearestAnswer::Refused(r) => {
-            let number = record::refusal_number(r);
-            NearestResult {
-                refusal: number,
-                jlo: 0,
-                jhi: 0,
-                range: 0,
-                mark: 0,
-                error: 0,
-            }
+                jlo: figures.indices.low.0,
+                jhi: figures.indices.high.0,
+                range: figures.indices.range.0,
+                mark: figures.mark.into(),
+                error: figures.error.0,
+            },
+            Err(refusal) => NearestResult {
+                refusal: refusal.into(),
+                ..Default::default()
+            },
         }
     }
 }
@@ -79,7 +53,7 @@ pub extern "C" fn yepidlaw_nearest(bytes: &[u8], table: &mut [u16]) -> NearestRe
     ensures { NearestCall bytes.now table.old table.new result }
 {
     let answer = engine::nearest_table(bytes, table);
-    nearest_result(answer)
+    NearestResult::from(answer)
 }
 
 #[repr(C)]
@@ -91,23 +65,19 @@ pub struct EvenResult {
     pub worst: u64,
 }
 
-fn even_result(answer: EvenAnswer) -> EvenResult
-    ensures { result ≡ even_result_of answer }
-{
-    match answer {
-        EvenAnswer::Made(figures) => {
-            let worst = figures.worst;
-            EvenResult {
+impl From<Result<EvenFigures, Refusal>> for EvenResult {
+    ghost from_gives = { λ answer result. result ≡ even_result_of answer };
+
+    fn from(answer: Result<EvenFigures, Refusal>) -> EvenResult {
+        match answer {
+            Ok(figures) => EvenResult {
                 refusal: 0,
-                worst: worst,
-            }
-        }
-        EvenAnswer::Refused(r) => {
-            let why = record::refusal_number(r);
-            EvenResult {
-                refusal: why,
+                worst: figures.worst,
+            },
+            Err(refusal) => EvenResult {
+                refusal: refusal.into(),
                 worst: 0,
-            }
+            },
         }
     }
 }
@@ -117,7 +87,7 @@ pub extern "C" fn yepidlaw_even(bytes: &[u8], table: &mut [u16], work: &mut [u32
     ensures { EvenCall bytes.now table.old table.new work.old work.new result }
 {
     let answer = engine::even_table(bytes, table, work);
-    even_result(answer)
+    EvenResult::from(answer)
 }
 
 #[repr(C)]
@@ -129,36 +99,30 @@ pub struct CheckResult {
     pub verdict: u32,
 }
 
-fn verdict_number(verdict: Verdict) -> u32
+// No From: Option and u32 are both std's.
+fn verdict_number(verdict: Option<Verdict>) -> u32
     ensures { result ≡ verdict_number verdict }
 {
     match verdict {
-        Verdict::Pass => 1,
-        Verdict::Fail => 2,
+        None => 0,
+        Some(Verdict::Pass) => 1,
+        Some(Verdict::Fail) => 2,
     }
 }
 
-fn check_result(answer: CheckAnswer) -> CheckResult
-    ensures { result ≡ check_result_of answer }
-{
-    match answer {
-        CheckAnswer::Judged(found) => {
-            let verdict = verdict_number(found);
-            CheckResult {
+impl From<Result<Option<Verdict>, Refusal>> for CheckResult {
+    ghost from_gives = { λ answer result. result ≡ check_result_of answer };
+
+    fn from(answer: Result<Option<Verdict>, Refusal>) -> CheckResult {
+        match answer {
+            Ok(verdict) => CheckResult {
                 refusal: 0,
-                verdict: verdict,
-            }
-        }
-        CheckAnswer::NotMeasured => CheckResult {
-            refusal: 0,
-            verdict: 0,
-        },
-        CheckAnswer::Refused(r) => {
-            let reason = record::refusal_number(r);
-            CheckResult {
-                refusal: reason,
+                verdict: verdict_number(verdict),
+            },
+            Err(refusal) => CheckResult {
+                refusal: refusal.into(),
                 verdict: 0,
-            }
+            },
         }
     }
 }
@@ -168,5 +132,5 @@ pub extern "C" fn yepidlaw_check(bytes: &[u8], deviations: &mut [i32]) -> CheckR
     ensures { CheckCall bytes.now deviations.old deviations.new result }
 {
     let answer = engine::contrast_check(bytes, deviations);
-    check_result(answer)
+    CheckResult::from(answer)
 }

@@ -1,9 +1,11 @@
-use native.Mathlib.Omega.{arith}
-use Rattle.curve.proofs.Room.{mark_low, mark_high}
+use Rattle.std.proofs.Common.{rules}
+use Rattle.curve.specs.Room.{room_mark}
 use Rattle.curve.proofs.room_mark.Goals as goal
 
 pub returns-then-light-black : goal.returns-then-light-black
-returns-then-light-black c = mark_low _ _ (omega arith)
+unfolding room_mark
+returns-then-light-black c = search rules
 
-pub returns : goal.returns
-returns c = mark_high _ _ (omega arith)
+pub returns-else-light-black : goal.returns-else-light-black
+unfolding room_mark
+returns-else-light-black c = search rules

@@ -1,28 +1,26 @@
-use Prim.Native.Nat.{◌≤◌}
-use lib.ListN.{length}
 use native.Mathlib.Omega.{arith}
-use Rattle.engine.proofs.Reading.{unread, in_order}
-use Rattle.engine.proofs.Check.{check_short, check_back, check_front, check_failed, check_passed}
-use borrow.Author.Rules.{rules}
+use Rattle.std.proofs.lemmas.Result.{err_from_is_err_and}
+use Rattle.engine.proofs.Check.{check_short, check_back, check_none, all_read, check_made}
 use Rattle.engine.proofs.contrast_check.Goals as goal
 
 pub returns-then-deviations-lt17 : goal.returns-then-deviations-lt17
 returns-then-deviations-lt17 c = check_short _ _ (omega arith)
 
-pub test_without_indices-tested-requires : goal.test_without_indices-tested-requires
-test_without_indices-tested-requires c = in_order c.read_record-found.ensures _ c.in-Accepted.is
+pub returns-in_err-tested : goal.returns-in_err-tested
+returns-in_err-tested c =
+    let p = err_from_is_err_and c.from_residual.result c.from_residual.ensures.1 in
+    rw (p.1, p.2) (check_back _ _ (omega arith) _ c.in_err-tested.ensures)
 
-pub check_job-requires : goal.check_job-requires
-check_job-requires c =
-    let start = c in
-    let long : 17 ≤ length start.args.deviations.now = omega arith in
-    (check_front start.args.bytes.now start.args.deviations.now long c.read_record-found.ensures _ c.in-Accepted.is (search rules), long)
+pub returns-then-patches-eq0 : goal.returns-then-patches-eq0
+returns-then-patches-eq0 c = check_none _ _ (omega arith) c.in_ok-tested.ensures (omega arith)
 
-pub returns-in-Refused : goal.returns-in-Refused
-returns-in-Refused c = check_back _ _ (omega arith) _ (unread c.read_record-found.ensures _ c.in-Refused.is)
+pub readings_of-readings-requires : goal.readings_of-readings-requires
+readings_of-readings-requires c = all_read c.in_ok-tested.ensures (omega arith)
 
-pub returns-in-Failed : goal.returns-in-Failed
-returns-in-Failed c = check_failed _ _ (omega arith) c.read_record-found.ensures _ c.in-Accepted.is c.test_without_indices-tested.ensures _ c.in-Failed.is
+pub returns-in_err-verdict : goal.returns-in_err-verdict
+returns-in_err-verdict c =
+    let p = err_from_is_err_and c.from_residual-in_err-verdict.result c.from_residual-in_err-verdict.ensures.1 in
+    rw (p.1, p.2) (check_made _ _ (omega arith) c.in_ok-tested.ensures (omega arith) c.readings_of-readings.ensures c.into-limit.ensures c.check.ensures (rw c.in_err-verdict.was))
 
-pub returns-in-Passed : goal.returns-in-Passed
-returns-in-Passed c = check_passed _ _ (omega arith) c.read_record-found.ensures _ c.in-Accepted.is c.test_without_indices-tested.ensures c.in-Passed.is c.check_job.ensures
+pub returns : goal.returns
+returns c = check_made _ _ (omega arith) c.in_ok-tested.ensures (omega arith) c.readings_of-readings.ensures c.into-limit.ensures c.check.ensures (rw c.in_ok-verdict.was)

@@ -1,31 +1,30 @@
-use mathlib.Core.Path.{refl, sym, ◌∙◌}
-use lib.Seq.{length-take-le}
-use native.Mathlib.Omega.{arith}
-use Rattle.engine.proofs.Reading.{unread, in_order, sent_back, passed_tests}
-use Rattle.engine.proofs.Even.{too_little_lem, even_back, error_high, fill_asks, even_filled}
+use mathlib.Core.Path.{sym, ◌∙◌}
+use Rattle.std.proofs.lemmas.Result.{err_from_is_err_and}
+use Rattle.engine.proofs.Even.{outcome_refused, outcome_made, too_little_lem, even_back, curve_workable, has_room, even_filled}
 use borrow.Author.Rules.{rules}
 use Rattle.engine.proofs.even_table.Goals as goal
 
 pub returns-then-is_too_little : goal.returns-then-is_too_little
 returns-then-is_too_little c = too_little_lem _ _ _ (sym c.is_too_little.ensures ∙ c.if-is_too_little.true)
 
-pub test_job-ranged-requires : goal.test_job-ranged-requires
-test_job-ranged-requires c = (c.table_b1-b1.ensures, in_order c.read_record-found.ensures _ c.in-Accepted.is)
+pub returns-in_err-tested : goal.returns-in_err-tested
+returns-in_err-tested c =
+    let p = err_from_is_err_and c.from_residual.result c.from_residual.ensures.1 in
+    rw (p.1, p.2) (even_back _ _ _ (sym c.is_too_little.ensures ∙ c.if-is_too_little.false) _ c.in_err-tested.ensures)
+
+pub invariant_of-problem : goal.invariant_of-problem
+invariant_of-problem c = record { workable = curve_workable (c.draw-levels.ensures _ c.in_ok-tested.ensures) }
+
+pub fill_table-requires : goal.fill_table-requires
+fill_table-requires c = has_room _ _ _ (sym c.is_too_little.ensures ∙ c.if-is_too_little.false) (c.draw-levels.ensures _ c.in_ok-tested.ensures) _ _ (search rules) (search rules)
+
+pub returns-in_err-worst : goal.returns-in_err-worst
+returns-in_err-worst c =
+    let p = err_from_is_err_and c.from_residual-in_err-worst.result c.from_residual-in_err-worst.ensures.1 in
+    rw (p.1, p.2) (even_filled _ _ _ (sym c.is_too_little.ensures ∙ c.if-is_too_little.false) (c.draw-levels.ensures _ c.in_ok-tested.ensures) c.fill_table.ensures (outcome_refused _ c.ok_or.ensures.value c.in_err-worst.was))
 
 pub draw-levels-requires : goal.draw-levels-requires
-draw-levels-requires c = (c.table_b1-b1.ensures, passed_tests c.read_record-found.ensures _ c.in-Accepted.is c.test_job-ranged.ensures _ c.in-Wide.is, record { levels = refl; values = refl })
+draw-levels-requires c = (_, c.in_ok-tested.ensures)
 
-pub slice_bounds-fill_table-end : goal.slice_bounds-fill_table-end
-slice_bounds-fill_table-end c = sym (length-take-le _ _ c.draw-levels.ensures.fits)
-
-pub fill_table-outcome-requires : goal.fill_table-outcome-requires
-fill_table-outcome-requires c = fill_asks _ _ _ (sym c.is_too_little.ensures ∙ c.if-is_too_little.false) c.draw-levels.ensures _ _ (search rules) (search rules) (omega (arith, error_high c.draw-levels.ensures))
-
-pub returns-in-Refused : goal.returns-in-Refused
-returns-in-Refused c = even_back _ _ _ (sym c.is_too_little.ensures ∙ c.if-is_too_little.false) _ (unread c.read_record-found.ensures _ c.in-Refused.is)
-
-pub returns-in-Fault : goal.returns-in-Fault
-returns-in-Fault c = even_back _ _ _ (sym c.is_too_little.ensures ∙ c.if-is_too_little.false) _ (sent_back c.read_record-found.ensures _ c.in-Accepted.is c.test_job-ranged.ensures _ c.in-Fault.is)
-
-pub returns-in-Wide : goal.returns-in-Wide
-returns-in-Wide c = even_filled _ _ _ (sym c.is_too_little.ensures ∙ c.if-is_too_little.false) c.draw-levels.ensures c.fill_table-outcome.ensures c.even_answer.ensures
+pub returns : goal.returns
+returns c = even_filled _ _ _ (sym c.is_too_little.ensures ∙ c.if-is_too_little.false) (c.draw-levels.ensures _ c.in_ok-tested.ensures) c.fill_table.ensures (outcome_made _ c.ok_or.ensures.value c.in_ok-worst.was)

@@ -12,21 +12,18 @@ returns-then-is_above_table c =
 
 pub overflow_add-black : goal.overflow_add-black
 overflow_add-black c =
-    let start = c in
     let below = c.is_below_table.ensures in
-    omega (arith, (in_table _ _ _ below c.if-is_below_table.false _ c.is_above_table.ensures c.if-is_above_table.false (omega arith) _ start.requires.0).low.high)
+    omega (arith, (in_table _ _ _ below c.if-is_below_table.false _ c.is_above_table.ensures c.if-is_above_table.false (omega arith)).0.high)
 
 pub overflow_add-white : goal.overflow_add-white
 overflow_add-white c =
-    let start = c in
     let below = c.is_below_table.ensures in
-    omega (arith, (in_table _ _ _ below c.if-is_below_table.false _ c.is_above_table.ensures c.if-is_above_table.false (omega arith) _ start.requires.0).high.high)
+    omega (arith, (in_table _ _ _ below c.if-is_below_table.false _ c.is_above_table.ensures c.if-is_above_table.false (omega arith)).1.high)
 
 pub index_range-indices-requires : goal.index_range-indices-requires
 index_range-indices-requires c =
-    let start = c in
     let below = c.is_below_table.ensures in
-    in_table _ _ _ below c.if-is_below_table.false _ c.is_above_table.ensures c.if-is_above_table.false (omega arith) _ start.requires.0
+    in_table _ _ _ below c.if-is_below_table.false _ c.is_above_table.ensures c.if-is_above_table.false (omega arith)
 
 pub returns-then-is_too_narrow : goal.returns-then-is_too_narrow
 returns-then-is_too_narrow c =

@@ -1,6 +1,6 @@
 use Rattle.gsdf.proofs.Ends.{below_is}
 use Rattle.gsdf.proofs.is_below_table.Goals as goal
 
--- src/lib.rt:53:1
+-- The end of the table is its entry. Assumes nothing.
 pub returns : goal.returns
-returns c = below_is _
+returns c = rw (c.from.ensures, c.from-2.ensures) (below_is _)

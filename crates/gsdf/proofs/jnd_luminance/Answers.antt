@@ -1,4 +1,4 @@
--- Entry j − 1 of the lent table. Assumes nothing.
+-- Entry j − 1 of the table. Assumes nothing.
 use mathlib.Core.Path.{ap}
 use mathlib.Core.List.{List}
 use Prim.Native.Nat.{ℕ, ◌-◌}
@@ -8,4 +8,4 @@ use Rattle.gsdf.proofs.jnd_luminance.Goals as goal
 
 pub returns : goal.returns
 unfolding jnd_luminance
-returns c = ap (λ (xs : List ℕ). get_or xs (c.args.j - 1) 0) c.requires.0
+returns c = ap (λ (xs : List ℕ). get_or xs (c.args.j - 1) 0) c.entries.ensures

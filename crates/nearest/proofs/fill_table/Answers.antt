@@ -1,25 +1,18 @@
 -- The loop's invariant is the record `Filling`. Assumes nothing.
-use native.Mathlib.Omega.{arith}
-use Rattle.nearest.proofs.Filling.{filling_none, filling_more, filling_all, filling_length}
+use Rattle.std.proofs.Common.{arith, rules}
+use Rattle.nearest.proofs.Filling.{filling_none, not_past_next, filling_more, filling_all}
 use Rattle.nearest.proofs.fill_table.Goals as goal
 
-pub bounds-curve-0 : goal.bounds-curve-0
-bounds-curve-0 c = c.requires.walkable.some
-
 pub loop-p-init : goal.loop-p-init
-loop-p-init c = filling_none _ _ _
+loop-p-init c = filling_none _ _ _ c.start-place.ensures
 
-pub next_entry-entry-requires : goal.next_entry-entry-requires
-next_entry-entry-requires c = (c.requires.walkable, c.loop-p.invariant.ahead _ (omega arith) (omega arith))
-
-pub bounds-table-p : goal.bounds-table-p
-bounds-table-p c = rw (filling_length c.loop-p.invariant c.requires) (omega arith)
+pub advance-place-requires : goal.advance-place-requires
+advance-place-requires c = not_past_next c.loop-p.invariant c.requires (omega arith)
 
 pub loop-p-preserved : goal.loop-p-preserved
-loop-p-preserved c = filling_more c.loop-p.invariant c.requires (omega arith) c.next_entry-entry.ensures _ c.larger-largest.ensures
-
-pub shape_of-table : goal.shape_of-table
-shape_of-table c = filling_length c.loop-p.invariant c.requires
+loop-p-preserved c =
+    let (same, place) = c.advance-place.ensures in
+    filling_more c.loop-p.invariant c.requires (omega arith) same place.not_past c.entry-entry.ensures _ (search rules)
 
 pub returns : goal.returns
 returns c = filling_all c.loop-p.invariant c.requires (omega arith)

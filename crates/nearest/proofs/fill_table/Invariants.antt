@@ -1,12 +1,6 @@
 -- The loop's invariant is the record `Filling`. Assumes nothing.
-use Prim.Native.Nat.{◌-◌}
-use lib.ListN.{length}
 use Rattle.nearest.proofs.Filling.{Filling}
 use Rattle.nearest.proofs.fill_table.Given as goal
 
 abbrev pub invariant-loop-p : goal.invariant-loop-p
-invariant-loop-p l =
-    Filling l.curve l.targets l.initial.table l.table l.largest.0 l.below l.dark.0 l.above l.p
-
-abbrev pub decreases-loop-p : goal.decreases-loop-p
-decreases-loop-p l = length l.targets - l.p
+invariant-loop-p l = Filling l.curve l.targets l.initial.table l.table l.largest.0 l.place l.p

@@ -1,37 +1,30 @@
 -- The loop's invariant is the record `Gathering`. Assumes nothing.
+use mathlib.Core.Path.{◌≡◌}
+use mir.Facts.{clash}
+use Prim.Native.Nat.{max}
 use native.Mathlib.Omega.{arith}
 use Rattle.reach.proofs.Bits.{shl_one}
-use Rattle.reach.proofs.Words.{asks_next, gathering_none, gathering_skip, gathering_mark, gathering_all}
+use Rattle.reach.proofs.Words.{gathering_none, gathering_skip, gathering_mark, gathering_end}
 use Rattle.reach.proofs.fill_word.Goals as goal
-use Rattle.reach.proofs.fill_word.Goals.{then-fits, else-fits}
+use Rattle.reach.proofs.fill_word.Goals.{in-Some+then-from-luminance, in-Some+else-from-luminance, in-None}
 
 pub loop-d-init : goal.loop-d-init
-loop-d-init c = gathering_none _ _ _ _ _ _ _ _ _ (omega arith)
-
-pub overflow_cast-luminance : goal.overflow_cast-luminance
-overflow_cast-luminance c = omega (arith, c.type_inv.curve c.loop-d.d)
-
-pub overflow_add-wanted : goal.overflow_add-wanted
-overflow_add-wanted c = omega (arith, c.type_inv.curve c.loop-d.d)
-
-pub overflow_add-highest : goal.overflow_add-highest
-overflow_add-highest c = omega (arith, c.type_inv.curve c.loop-d.d)
-
-pub find_lit-found-requires : goal.find_lit-found-requires
-find_lit-found-requires c =
-    let asks = c.requires.0 in (asks_next asks, asks.next)
+loop-d-init c = gathering_none _ _ _ _ _ _ _ _ _
 
 pub loop-d-preserved : goal.loop-d-preserved
 loop-d-preserved c =
     let at = c in
     let (asks, one) = at.requires in
-    let starts = c.larger-start.ensures in
-    let found = c.find_lit-found.ensures in
-    elim c.if-fits.branch [
-      | then-fits w ↦ rw (w.bits-is, shl_one at.loop-d.d)
-          (gathering_mark at.loop-d.invariant asks (omega arith) starts found.first one (found.inside w.if-fits.true) (found.near w.if-fits.true))
-      | else-fits w ↦ rw w.bits-is (gathering_skip at.loop-d.invariant asks (omega arith) starts found.first (found.far w.if-fits.false))
+    let h = at.loop-d.invariant in
+    elim c.match-first_lit.branch [
+      | in-Some+then-from-luminance w ↦ let (l, first) = rw at.from-luminance.ensures at w.in-Some.ensures in
+          rw (w.bits-is, w.q-is, shl_one at.loop-d.d) (gathering_mark h asks (omega arith) at.max.ensures first one l (omega (arith, w.from.ensures, at.from-luminance.ensures, w.if-from-luminance.true)))
+      | in-Some+else-from-luminance w ↦ let (l, first) = rw at.from-luminance.ensures at w.in-Some.ensures in
+          rw (w.bits-is, w.q-is) (gathering_skip h asks (omega arith) at.max.ensures first (λ _. omega (arith, w.from.ensures, at.from-luminance.ensures, w.if-from-luminance.false)))
+      | in-None w ↦
+          let e : max at.max.result at.args.next.to ≡ at.args.next.to = omega arith in
+          rw (w.bits-is, w.q-is) (gathering_skip h asks (omega arith) at.max.ensures (rw (e, at.from-luminance.ensures) at w.in-None.ensures) (λ l. clash l (omega arith)))
     ]
 
-pub returns : goal.returns
-returns c = gathering_all c.loop-d.invariant (omega arith)
+pub returns-then-left : goal.returns-then-left
+returns-then-left c = gathering_end c.loop-d.invariant c.requires.0.never_falls (omega arith) (omega arith)

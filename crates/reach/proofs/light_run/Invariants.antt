@@ -1,10 +1,6 @@
 -- The loop's invariant is the record `Lighting`. Assumes nothing.
-use Prim.Native.Nat.{◌-◌}
 use Rattle.reach.proofs.Runs.{Lighting}
 use Rattle.reach.proofs.light_run.Given as goal
 
 abbrev pub invariant-loop-d : goal.invariant-loop-d
-invariant-loop-d l = Lighting l.initial.words l.words l.p l.initial.d l.d
-
-abbrev pub decreases-loop-d : goal.decreases-loop-d
-decreases-loop-d l = l.to - l.d
+invariant-loop-d l = Lighting l.initial.words l.words l.p l.fn.run.from l.d

@@ -1,5 +1,60 @@
-use Rattle.record.proofs.Judged.{settings_by}
+use Rattle.std.proofs.Common.{ℕ, Bool, false, ◌≡◌, sym, refl, ◌∙◌, arith}
+use Rattle.std.proofs.lemmas.Grind.{common_steps}
+use Rattle.std.proofs.lemmas.Result.{err_from_is_err_and}
+use Rattle.record.specs.declared.Refusal.TheVariants.{OutOfRange}
+use Rattle.record.specs.Bytes.{word}
+use Rattle.record.specs.Tests.{within}
+use Rattle.record.specs.Reader.{values}
+use Rattle.record.proofs.Fields.{field_at}
+use Rattle.record.proofs.Judged.{Five, refused_by, passed_by, unless_err, unless_ok, range_meter, range_class, range_others, settings_by}
+use Rattle.std.specs.Range.{range_inclusive_contains, range_inclusive_start, range_inclusive_end, range_inclusive_exhausted}
+use Rattle.std.specs.declared.ops.RangeInclusive.{RangeInclusive}
+use Rattle.std.specs.contracts.prelude.U16PartialOrd.TheImpl.{partial_cmp-value}
 use Rattle.record.proofs.job_settings.Goals as goal
 
+-- a range's own test, at the numbers that it was made with
+contains_within : (s : RangeInclusive ℕ) (low high x : ℕ) {b : Bool} → b ≡ range_inclusive_contains partial_cmp-value.it s x
+    → range_inclusive_start s ≡ low → range_inclusive_end s ≡ high → range_inclusive_exhausted s ≡ false → b ≡ within low high x
+contains_within s low high x e f g h = grind (arith, common_steps)
+
+pub returns-in_err-meter : goal.returns-in_err-meter
+returns-in_err-meter c =
+    let p = err_from_is_err_and c.from_residual.result c.from_residual.ensures.1 in
+    let u = unless_err (within 0 1 c.get.result) _ c.in_err-meter.ensures in
+    rw (p.1, p.2) (refused_by _ (range_meter _ (c.get.ensures ∙ sym (field_at 2 (word 0) _ _ 1 0 (omega arith))) u.0) u.1)
+
+pub returns-in_err-class : goal.returns-in_err-class
+returns-in_err-class c =
+    let p = err_from_is_err_and c.from_residual-in_err-class.result c.from_residual-in_err-class.ensures.1 in
+    let u = unless_err (within 1 2 c.get-2.result) _ c.in_err-class.ensures in
+    rw (p.1, p.2) (refused_by _ (range_class _ (c.get-2.ensures ∙ sym (field_at 2 (word 0) _ _ 2 0 (omega arith))) u.0) u.1)
+
+pub returns-then-not-in_range : goal.returns-then-not-in_range
+returns-then-not-in_range c =
+    let five : Five (values c.args.settings.now) c.get-depth.result c.get.result c.get-2.result c.get-reflectance.result c.get-tolerance.result =
+    record {
+      depth = c.get-depth.ensures ∙ sym (field_at 2 (word 0) _ _ 0 0 (omega arith));
+      meter = c.get.ensures ∙ sym (field_at 2 (word 0) _ _ 1 0 (omega arith));
+      class = c.get-2.ensures ∙ sym (field_at 2 (word 0) _ _ 2 0 (omega arith));
+      reflectance = c.get-reflectance.ensures ∙ sym (field_at 2 (word 0) _ _ 3 0 (omega arith));
+      tolerance = c.get-tolerance.ensures ∙ sym (field_at 2 (word 0) _ _ 4 0 (omega arith));
+    } in
+    let d = contains_within c.new.result 8 10 c.get-depth.result c.contains.ensures.value c.new.ensures.start c.new.ensures.end c.new.ensures.exhausted in
+    let m = unless_ok (within 0 1 c.get.result) OutOfRange _ c.in_ok-meter.ensures in
+    let k = unless_ok (within 1 2 c.get-2.result) OutOfRange _ c.in_ok-class.ensures in
+    refused_by _ (range_others five m.0 k.0 d ∙ c.if-not-in_range.true) refl
+
 pub returns : goal.returns
-returns c = settings_by _ c.meter_of-meter.ensures c.class_of-class.ensures
+returns c =
+    let five : Five (values c.args.settings.now) c.get-depth.result c.get.result c.get-2.result c.get-reflectance.result c.get-tolerance.result =
+    record {
+      depth = c.get-depth.ensures ∙ sym (field_at 2 (word 0) _ _ 0 0 (omega arith));
+      meter = c.get.ensures ∙ sym (field_at 2 (word 0) _ _ 1 0 (omega arith));
+      class = c.get-2.ensures ∙ sym (field_at 2 (word 0) _ _ 2 0 (omega arith));
+      reflectance = c.get-reflectance.ensures ∙ sym (field_at 2 (word 0) _ _ 3 0 (omega arith));
+      tolerance = c.get-tolerance.ensures ∙ sym (field_at 2 (word 0) _ _ 4 0 (omega arith));
+    } in
+    let d = contains_within c.new.result 8 10 c.get-depth.result c.contains.ensures.value c.new.ensures.start c.new.ensures.end c.new.ensures.exhausted in
+    let m = unless_ok (within 0 1 c.get.result) OutOfRange _ c.in_ok-meter.ensures in
+    let k = unless_ok (within 1 2 c.get-2.result) OutOfRange _ c.in_ok-class.ensures in
+    passed_by OutOfRange (range_others five m.0 k.0 d ∙ c.if-not-in_range.false) (rw (settings_by five m.1 k.1))

@@ -1,16 +1,12 @@
-use Rattle.record.proofs.Scans.{sum_none, sum_more, sum_end, up_to_front}
-use Rattle.laws.proofs.Lists.{next_of, none_after}
-use native.Mathlib.Omega.{arith}
+use Rattle.std.proofs.Common.{arith, refl}
+use Rattle.std.proofs.lemmas.Iterator.Consumers.{YieldsList-from_first, fits_from_yields_list}
+use Rattle.record.specs.Bytes.{word, fields}
+use Rattle.record.specs.Reader.{values}
+use Rattle.record.proofs.Fields.{fields_length}
+use Rattle.record.proofs.Scans.{sum_up_to}
 use Rattle.record.proofs.lamp_sum.Goals as goal
 
-pub loop-i-init : goal.loop-i-init
-loop-i-init c = (omega arith, omega arith, sum_none _)
-
-pub overflow_add-total : goal.overflow_add-total
-overflow_add-total c = omega (arith, up_to_front 2000 c.args.n c.args.lamps.now c.loop-i.i c.requires.2 (omega arith))
-
-pub loop-i-preserved : goal.loop-i-preserved
-loop-i-preserved c = (omega arith, omega (arith, up_to_front 2000 c.args.n c.args.lamps.now c.loop-i.i c.requires.2 (omega arith)), sum_more c.loop-i.invariant.2 _ (next_of c.args.n c.args.lamps.now c.loop-i.i 0 (omega arith) (omega arith)))
-
-pub returns : goal.returns
-returns c = sum_end c.loop-i.invariant.2 (none_after _ _ _ c.loop-i-test.false)
+pub sum-requires-clause-fits : goal.sum-requires-clause-fits
+sum-requires-clause-fits c =
+    fits_from_yields_list _ _ (YieldsList-from_first (λ x. x) (λ v. fields 2 (word 0) v.count v.bytes.now) _ refl)
+    (omega (arith, sum_up_to 2000 (values c.args.lamps.now) c.requires.1, fields_length 2 (word 0) c.args.lamps.now.count c.args.lamps.now.bytes.now))

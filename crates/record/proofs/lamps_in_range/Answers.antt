@@ -1,16 +1,11 @@
-use Rattle.record.proofs.Scans.{up_to_none, up_to_more, up_to_not, up_to_end}
-use Rattle.laws.proofs.Lists.{next_of, none_after}
-use native.Mathlib.Omega.{arith}
+use Rattle.std.proofs.Common.{leb, refl, rules}
+use borrow.Author.Tests.{tests}
+use Rattle.std.proofs.lemmas.Iterator.Consumers.{YieldsList-from_first}
+use Rattle.std.proofs.lemmas.Iterator.Search.{all_from_yields_List}
+use Rattle.record.specs.Bytes.{word, fields}
+use Rattle.record.specs.Tests.{all_up_to}
 use Rattle.record.proofs.lamps_in_range.Goals as goal
 
-pub loop-i-init : goal.loop-i-init
-loop-i-init c = (omega arith, up_to_none 2000 _)
-
-pub returns-then-lux-gt2000 : goal.returns-then-lux-gt2000
-returns-then-lux-gt2000 c = up_to_not c.loop-i.invariant.1 _ (next_of c.args.n c.args.lamps.now c.loop-i.i 0 (omega arith) (omega arith)) (omega arith)
-
-pub loop-i-preserved : goal.loop-i-preserved
-loop-i-preserved c = (omega arith, up_to_more c.loop-i.invariant.1 _ (next_of c.args.n c.args.lamps.now c.loop-i.i 0 (omega arith) (omega arith)) (omega arith))
-
 pub returns : goal.returns
-returns c = up_to_end c.loop-i.invariant.1 (none_after _ _ _ c.loop-i-test.false)
+unfolding all_up_to
+returns c = all_from_yields_List (λ x. leb x 2000) c.all.new.self c.all.new.f _ c.all.ensures.ran (YieldsList-from_first (λ x. x) (λ v. fields 2 (word 0) v.count v.bytes.now) _ refl) (λ x b q k. search (rules, tests))

@@ -1,24 +1,18 @@
--- The answer of the nearest table chooses what is put. Assumes nothing.
-use mathlib.Core.Path.{refl, sym, ◌∙◌}
-use lib.ListN.{length}
-use Rattle.report.specs.Report.{entries}
-use Rattle.report.proofs.Reporting.{report_refused, report_made, reported}
+-- What is put is the report, whether a refusal or all lines. Assumes nothing.
+use mathlib.Core.Path.{◌≡◌, ap, ◌∙◌}
+use lib.ListN.{length, length-take}
+use native.Mathlib.Omega.{arith}
+use Rattle.report.specs.Report.{report_of}
+use Rattle.report.proofs.Reporting.{reported}
 use Rattle.report.proofs.report_on.Goals as goal
+use Rattle.report.proofs.report_on.Goals.{in-Err, in_default}
 
-pub returns-in-Refused : goal.returns-in-Refused
-unfolding entries
-returns-in-Refused c = record {
-  report_promise = reported
-      (report_refused c.args.bytes.now (length c.args.work.now) (sym c.nearest_table-answer.ensures.answers ∙ c.in-Refused.is))
-      c.put_refusal-size.ensures;
-  words_kept = record { size = refl; later = λ i h. refl; refused = λ h. refl };
-}
-
-pub returns-in-Made : goal.returns-in-Made
-unfolding entries
-returns-in-Made c = record {
-  report_promise = reported
-      (report_made c.args.bytes.now (length c.args.work.now) (sym c.nearest_table-answer.ensures.answers ∙ c.in-Made.is) c.nearest_table-answer.ensures.table)
-      c.after_nearest-size.ensures.put;
-  words_kept = c.after_nearest-size.ensures.words_kept;
-}
+pub returns-clause-report_promise : goal.returns-clause-report_promise
+returns-clause-report_promise c =
+    let report : c.match-put_job.report ≡ report_of c.args.bytes.now (length c.args.work.now) =
+    elim c.match-put_job.branch [
+      | in-Err w ↦ w.report-is ∙ w.put_refusal.ensures ∙ w.in-Err.ensures.refusal
+      | in_default w ↦ w.report-is ∙ w.in_default.ensures.lines
+    ]
+    in
+    reported (omega (arith, c.report.invariant, ap length c.report.view_is, length-take c.report.inside.size c.report.inside.text)) report

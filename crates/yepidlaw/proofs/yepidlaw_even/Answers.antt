@@ -1,5 +1,4 @@
-use Rattle.yepidlaw.proofs.Numbered.{even_called}
 use Rattle.yepidlaw.proofs.yepidlaw_even.Goals as goal
 
 pub returns : goal.returns
-returns c = even_called c.even_table-answer.ensures c.even_result.ensures
+returns c = let p = c.even_table-answer.ensures in record { numbers = rw (← p.answers) c.from.ensures; promise = rw (← p.answers) p }

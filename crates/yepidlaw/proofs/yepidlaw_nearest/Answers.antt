@@ -1,5 +1,4 @@
-use Rattle.yepidlaw.proofs.Numbered.{called}
 use Rattle.yepidlaw.proofs.yepidlaw_nearest.Goals as goal
 
 pub returns : goal.returns
-returns c = called c.nearest_table-answer.ensures c.nearest_result.ensures
+returns c = let p = c.nearest_table-answer.ensures in record { numbers = rw (← p.answers) c.from.ensures; promise = rw (← p.answers) p }

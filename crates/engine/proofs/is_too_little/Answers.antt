@@ -1,5 +1,0 @@
-use mathlib.Core.Path.{refl}
-use Rattle.engine.proofs.is_too_little.Goals as goal
-
-pub returns : goal.returns
-returns c = refl

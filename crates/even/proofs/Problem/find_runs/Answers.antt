@@ -1,0 +1,59 @@
+-- One walk over the P-values. Assumes nothing.
+use Prim.Native.Nat.{◌+◌}
+use native.Mathlib.Omega.{arith}
+use Rattle.even.proofs.Bound.{next_value, found_none, from_fits, to_fits, finding_first, level, run_on, next_level, climbs, finding_more, found_all}
+use Rattle.even.proofs.Problem.find_runs.Goals as goal
+
+pub returns-in_err-run : goal.returns-in_err-run
+returns-in_err-run c =
+    let ok = c.args.self.now.workable in
+    rw c.from_residual.ensures (found_none ok 0 _ _ ok.usable.some_target c.in_err-run.ensures)
+
+pub loop-p-init : goal.loop-p-init
+loop-p-init c = finding_first c.args.self.now.workable c.requires c.in_ok-run.ensures
+
+pub overflow_cast-starts : goal.overflow_cast-starts
+overflow_cast-starts c = omega (arith, from_fits c.args.self.now.workable c.requires 0 c.in_ok-run.ensures)
+
+pub overflow_cast-ends : goal.overflow_cast-ends
+overflow_cast-ends c = omega (arith, to_fits c.args.self.now.workable c.requires 0 c.in_ok-run.ensures)
+
+pub overflow_cast-starts-in-loop-p : goal.overflow_cast-starts-in-loop-p
+overflow_cast-starts-in-loop-p c = omega (arith, from_fits c.args.self.now.workable c.requires (c.loop-p.p + 1) c.in_ok-next.ensures)
+
+pub overflow_cast-ends-in-loop-p : goal.overflow_cast-ends-in-loop-p
+overflow_cast-ends-in-loop-p c = omega (arith, to_fits c.args.self.now.workable c.requires (c.loop-p.p + 1) c.in_ok-next.ensures)
+
+pub run_up-requires-in-loop-p-clause-not_above : goal.run_up-requires-in-loop-p-clause-not_above
+run_up-requires-in-loop-p-clause-not_above c = run_on c.args.self.now.workable c.requires c.loop-p.invariant c.loop-p-test.true
+
+pub returns-in_err-next : goal.returns-in_err-next
+returns-in_err-next c =
+    let ok = c.args.self.now.workable in
+    rw c.from_residual-in_err-next.ensures (found_none ok (c.loop-p.p + 1) _ _ (next_value ok _ c.loop-p-test.true) c.in_err-next.ensures)
+
+pub offset_bounds-self-next : goal.offset_bounds-self-next
+offset_bounds-self-next c =
+    let ok = c.args.self.now.workable in
+    omega (arith, next_level ok c.requires c.loop-p.invariant c.loop-p-test.true c.in_ok-next.ensures, ok.levels)
+
+pub bounds-self-next : goal.bounds-self-next
+bounds-self-next c = next_level c.args.self.now.workable c.requires c.loop-p.invariant c.loop-p-test.true c.in_ok-next.ensures
+
+pub offset_bounds-self-run : goal.offset_bounds-self-run
+offset_bounds-self-run c =
+    let ok = c.args.self.now.workable in
+    omega (arith, level ok c.requires c.loop-p.invariant, ok.levels)
+
+pub bounds-self-run : goal.bounds-self-run
+bounds-self-run c = level c.args.self.now.workable c.requires c.loop-p.invariant
+
+pub overflow_sub-f : goal.overflow_sub-f
+overflow_sub-f c = climbs c.args.self.now.workable c.requires c.loop-p.invariant c.loop-p-test.true c.in_ok-next.ensures
+
+pub loop-p-preserved : goal.loop-p-preserved
+loop-p-preserved c =
+    rw (c.max-worst.ensures, c.step_deviation.ensures, c.wanted_step.ensures) (finding_more c.args.self.now.workable c.requires c.loop-p.invariant c.loop-p-test.true c.in_ok-next.ensures)
+
+pub returns : goal.returns
+returns c = found_all c.args.self.now.workable c.requires c.loop-p.invariant c.loop-p-test.false

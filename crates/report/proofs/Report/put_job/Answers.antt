@@ -1,0 +1,33 @@
+-- The first refusal is returned. Assumes nothing.
+use Rattle.std.proofs.lemmas.Result.{err_from_is_err_and}
+use Rattle.report.specs.Report.{entries}
+use Rattle.report.proofs.Reporting.{nearest_refuses, even_refuses, check_refuses, all_made, kept}
+use Rattle.report.proofs.Report.put_job.Goals as goal
+
+pub returns-in_err-figures-clause-refusal : goal.returns-in_err-figures-clause-refusal
+returns-in_err-figures-clause-refusal c =
+    let p = err_from_is_err_and c.from_residual.result c.from_residual.ensures.1 in
+    rw (p.1, p.2) (nearest_refuses _ _ c.in_err-figures.ensures.answers)
+
+pub returns-in_err-made-clause-refusal : goal.returns-in_err-made-clause-refusal
+returns-in_err-made-clause-refusal c =
+    let p = err_from_is_err_and c.from_residual-in_err-made.result c.from_residual-in_err-made.ensures.1 in
+    rw (p.1, p.2) (even_refuses _ _ c.in_ok-figures.ensures.answers c.in_err-made.ensures.answers)
+
+pub returns-in_err-check-clause-refusal : goal.returns-in_err-check-clause-refusal
+returns-in_err-check-clause-refusal c =
+    let p = err_from_is_err_and c.from_residual-in_err-check.result c.from_residual-in_err-check.ensures.1 in
+    rw (p.1, p.2) (check_refuses _ _ c.in_ok-figures.ensures.answers c.in_ok-made.ensures.answers c.in_err-check.ensures.answers)
+
+pub returns-clause-lines : goal.returns-clause-lines
+unfolding entries
+returns-clause-lines c =
+    rw c.put_lines.ensures (all_made _ _ c.in_ok-figures.ensures.answers c.in_ok-made.ensures.answers c.in_ok-check.ensures.answers c.in_ok-figures.ensures.table c.in_ok-made.ensures.table)
+
+pub returns-in_err-check-clause-words_kept : goal.returns-in_err-check-clause-words_kept
+unfolding entries
+returns-in_err-check-clause-words_kept c = kept c.even_table.ensures
+
+pub returns-clause-words_kept : goal.returns-clause-words_kept
+unfolding entries
+returns-clause-words_kept c = kept c.even_table.ensures
