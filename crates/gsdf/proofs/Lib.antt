@@ -1,6 +1,5 @@
--- `TableRule`: the rule of Table B-1. `Unrounded`: the display function before its rounding. `Laws`: what the crates above use of it. `Reached`: the last JND at or below a luminance. `Ends`: a luminance against the ends of the table.
+-- `TableRule`: the rule of Table B-1. `Unrounded`: the display function before its rounding. `Laws`: what the crates above use of it. `Ends`: a luminance against the ends of the table.
 pub mod TableRule
 pub mod Unrounded
 pub mod Laws
 pub mod Ends
-pub mod Halving

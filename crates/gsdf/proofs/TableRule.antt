@@ -2,11 +2,14 @@
 -- Assumes nothing.
 use mathlib.Core.Path.{◌≡◌, refl}
 use Prim.Native.Nat.{ℕ, suc, ◌+◌, ◌-◌, ◌*◌, ◌≤◌, ◌<◌}
+use native.Mathlib.Numerals.{add-one}
 use native.Mathlib.Omega.{arith}
-use lib.ListN.{get_or}
+use lib.ListN.{length, get_or}
+use Rattle.std.specs.List.Sorted.{IsNonDecreasingBy}
+use Rattle.std.proofs.lemmas.List.Sorted.{IsNonDecreasingBy-from_default}
 use Rattle.laws.specs.Rises.{rises_from, rises_by}
 use Rattle.laws.proofs.Numbers.{Grows, grows_by, never_falls}
-use Rattle.laws.proofs.Rises.{rises_at}
+use Rattle.laws.proofs.Rises.{rises_at, keeps_by_steps}
 use Rattle.gsdf.specs.Table.{table_b1}
 use Rattle.gsdf.specs.DisplayFunction.{jnd_luminance}
 
@@ -14,6 +17,16 @@ use Rattle.gsdf.specs.DisplayFunction.{jnd_luminance}
 neighbours : (i : ℕ) → i < 1022 → get_or table_b1 i 0 + 47 ≤ get_or table_b1 (suc i) 0
 unfolding table_b1 rises_from rises_by
 neighbours i h = rises_at 47 table_b1 tt i (omega arith)
+
+pub table_b1_length : length table_b1 ≡ 1023
+unfolding table_b1
+table_b1_length = refl
+
+-- so no entry is below an earlier one
+pub table_b1_never_falls : IsNonDecreasingBy (λ (x : ℕ). x) table_b1
+table_b1_never_falls =
+    IsNonDecreasingBy-from_default (λ (x : ℕ). x) table_b1 0
+    (keeps_by_steps table_b1 (λ i h. rw add-one (omega (arith, neighbours i (omega (arith, table_b1_length)))))).keeps
 
 pub jnd_grows : Grows jnd_luminance 47 1 1023
 unfolding jnd_luminance

@@ -62,20 +62,8 @@ fn jnd_at_most(l: Luminance) -> usize
     ensures at_most { jnd_luminance result ≤ l.0 }
     ensures above { result < 1023 → l.0 < jnd_luminance (result + 1) }
 {
-    // T(j) is at most l, and T(j + width), where the table has it, is above l. By hand: `partition_point` reads one entry more: 50 instructions in
-    // place of 48, and 4 % more time.
-    let mut j: usize = 1;
-    let mut width: usize = 1023;
-    while 1 < width {
-        let half = width / 2;
-        let middle = j + half;
-        let at_middle = jnd_luminance(middle).0;
-        if at_middle <= l.0 {
-            j = middle;
-        }
-        width -= half;
-    }
-    j
+    // JND j is entry j − 1, so the last at or below l is their number.
+    entries().partition_point(|&luminance| luminance <= l.0)
 }
 
 // The largest index whose luminance is at most l.

@@ -1,20 +1,40 @@
--- The loop keeps l between two JNDs. Assumes nothing.
+-- The number of entries at most l is the last JND at or below l. Assumes nothing.
+use mathlib.Core.Logic.{⊎_elim}
+use Prim.Native.Nat.{ℕ, ◌+◌, ◌-◌, ◌≤◌, ◌<◌, zero-le}
 use native.Mathlib.Omega.{arith}
-use Rattle.gsdf.proofs.TableRule.{jnd_first}
-use Rattle.gsdf.proofs.Halving.{upper, lower}
+use lib.Dec.{leb}
+use borrow.Author.Tests.{leb-true, leb-false}
+use Rattle.std.proofs.Common.{rules}
+use Rattle.std.specs.List.Sorted.{IsPartitionPoint}
+use Rattle.std.proofs.lemmas.List.Sorted.{IsPartitionPoint-from_clause, IsPartitionedBy-leb}
+use Rattle.laws.proofs.Cases.{le_or_lt}
+use Rattle.gsdf.specs.Table.{table_b1}
+use Rattle.gsdf.specs.DisplayFunction.{jnd_luminance}
+use Rattle.gsdf.proofs.TableRule.{table_b1_length, table_b1_never_falls, jnd_first}
 use Rattle.gsdf.proofs.jnd_at_most.Goals as goal
-use Rattle.gsdf.proofs.jnd_at_most.Goals.{then-at_middle-l, else-at_middle-l}
 
-pub loop-width-init : goal.loop-width-init
-loop-width-init c = record {
-  first = omega arith;
-  some = omega arith;
-  last = omega arith;
-  at_most = omega (arith, jnd_first);
-  above = λ i a b. omega arith;
-}
+-- the entries before it are at most l, and those from it on are above l
+point : (c : goal.After-partition_point) → IsPartitionPoint (λ x. x ≤ c.args.l.0) (λ x. c.args.l.0 < x) table_b1 c.partition_point.result
+point c =
+    let l = c.args.l.0 in
+    let found = IsPartitionPoint-from_clause (λ (x : ℕ). leb x l) table_b1 c.partition_point.result
+    (rw c.entries.ensures at c.partition_point.ensures.partitioned)
+    (IsPartitionedBy-leb (λ (x : ℕ). x) table_b1 l table_b1_never_falls)
+    (λ a r f k. search rules) in
+    (λ k d a b. leb-true _ _ (found.0 k d a b), λ k d a b. leb-false _ _ (found.1 k d a b))
 
-pub loop-width-preserved : goal.loop-width-preserved
-loop-width-preserved c =
-    let loop = c.loop-width in
-    elim c.if-at_middle-l.branch [ then-at_middle-l w ↦ rw w.j-is (upper loop.invariant (omega arith) (omega arith)) | else-at_middle-l w ↦ rw w.j-is (lower loop.invariant (omega arith) (omega arith)) ]
+above : (c : goal.After-partition_point) (j : ℕ) → c.partition_point.result < j → j ≤ 1023 → c.args.l.0 < jnd_luminance j
+unfolding jnd_luminance
+above c j a b = (point c).1 (j - 1) 0 (omega arith) (omega (arith, table_b1_length))
+
+-- l is at least T(1)
+pub returns-clause-first : goal.returns-clause-first
+returns-clause-first c =
+    ⊎_elim (λ none. absurd (omega (arith, jnd_first, above c 1 (omega arith) (omega arith)))) (λ some. some) (le_or_lt c.partition_point.result 0)
+
+pub returns-clause-at_most : goal.returns-clause-at_most
+unfolding jnd_luminance
+returns-clause-at_most c = (point c).0 (c.partition_point.result - 1) 0 zero-le (omega (arith, returns-clause-first c))
+
+pub returns-clause-above : goal.returns-clause-above
+returns-clause-above c = λ inside. above c (c.partition_point.result + 1) (omega arith) (omega arith)
