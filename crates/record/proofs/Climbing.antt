@@ -38,7 +38,7 @@ at_most_is x y = grind (arith, common_steps)
 
 module _ (n : ℕ) (s : List ℕ) where
   -- r is read at place i
-  abbrev ReadAt : ℕ → Reading → Type 0
+  abbrev pub ReadAt : ℕ → Reading → Type 0
   ReadAt i r = r ≡ record { ddl = record { 0 = word 0 (drop (i * 6) s) }; luminance = record { 0 = long 2 (drop (i * 6) s) } }
 
   pub ddl_at : (i : ℕ) {r : Reading} → i < n → ReadAt i r → (x : ℕ) → r.ddl.0 ≡ get_or (fields 6 (word 0) n s) i x
@@ -97,62 +97,39 @@ module _ {dd lu : List ℕ} {n : ℕ} (dds : length dd ≡ n) (lus : length lu �
   }
 
   module _ {i : ℕ} (h : ClimbsSoFar dd lu i) where
-    module _ (l : i < n) where
-      climbs_more : steps_up dd lu i ≡ true → ClimbsSoFar dd lu (i + 1)
+    module _ (l : i < n) {up : Bool} (e : up ≡ steps_up dd lu i) where
+      -- the walk goes on
+      pub climbs_more : up ≡ true → ClimbsSoFar dd lu (i + 1)
       climbs_more t =
-          let e : i + 1 - 1 ≡ i = omega arith in
+          let f : i + 1 - 1 ≡ i = omega arith in
           record {
-            ddls = rw e (rises_more h.ddls _ (next_at dd i (omega arith)) (leb-true _ _ (and_left (rising dd i) (kept lu i) t)));
-            luminances = rw e (rises_more h.luminances _ (next_at lu i (omega arith)) (leb-true _ _ (and_right (rising dd i) (kept lu i) t)));
+            ddls = rw f (rises_more h.ddls _ (next_at dd i (omega arith)) (leb-true _ _ (and_left (rising dd i) (kept lu i) (sym e ∙ t))));
+            luminances = rw f (rises_more h.luminances _ (next_at lu i (omega arith)) (leb-true _ _ (and_right (rising dd i) (kept lu i) (sym e ∙ t))));
           }
 
-      climbs_not : steps_up dd lu i ≡ false → false ≡ climbing dd lu
+      climbs_not : up ≡ false → climbing dd lu ≡ false
       climbs_not t =
           by (rising dd i)
           (λ a.
-          let b : kept lu i ≡ false = sym (ap (λ (x : Bool). x && kept lu i) a) ∙ t in
-          sym (no_right (rises_by 1 dd) _ (rises_not h.luminances _ (next_at lu i (omega arith)) (leb-false _ _ b))))
+          let b : kept lu i ≡ false = sym (ap (λ (x : Bool). x && kept lu i) a) ∙ sym e ∙ t in
+          no_right (rises_by 1 dd) _ (rises_not h.luminances _ (next_at lu i (omega arith)) (leb-false _ _ b)))
           (λ a. rw (rises_not h.ddls _ (next_at dd i (omega arith)) (leb-false _ _ a)))
 
-    climbs_end : n ≤ i → true ≡ climbing dd lu
-    climbs_end l = rw (rises_end h.ddls (drop_of_length-le dd {i = i} (omega arith)), rises_end h.luminances (drop_of_length-le lu {i = i} (omega arith)))
-
-  -- ---- the walk
-
-  module _ {i : ℕ} (some : 1 ≤ i) (most : i ≤ n) (h : ClimbsSoFar dd lu i) where
-    levels : LevelsRise dd i
-    levels = record { some = some; most = omega arith; is = h.ddls.is }
-
-    -- it ends before the end of the sweep
-    ended : i < n → false ≡ climbing dd lu → Climbed dd lu i
-    ended l f = record { levels = levels; all = λ e. absurd (omega arith); not_all = λ l. sym f }
+      -- it ends before the end of the sweep
+      pub climbed_part : 1 ≤ i → up ≡ false → Climbed dd lu i
+      climbed_part some t = record {
+        levels = record { some = some; most = omega arith; is = h.ddls.is };
+        all = λ e. absurd (omega arith);
+        not_all = λ l. climbs_not t;
+      }
 
     -- or at it
-    pub climbed_all : (m : ℕ) → m ≡ n → n ≤ i → Climbed dd lu m
-    climbed_all m e l =
-        let f : i ≡ m = omega arith in
-        record { levels = subst (LevelsRise dd) f levels; all = λ e. sym (climbs_end h l); not_all = λ l. absurd (omega arith) }
-
-    -- by two steps
-    module _ (l : i + 1 < n) {a b : Bool} (ea : a ≡ steps_up dd lu i) (eb : b ≡ steps_up dd lu (i + 1)) where
-      pub climbs_two : (a && b) ≡ true → ClimbsSoFar dd lu (i + 2)
-      climbs_two t =
-          let e : i + 1 + 1 ≡ i + 2 = omega arith in
-          subst (ClimbsSoFar dd lu) e (climbs_more (climbs_more h (omega arith) (sym ea ∙ and_left a b t)) l (sym eb ∙ and_right a b t))
-
-      pub climbed_two : (a && b) ≡ false → Climbed dd lu i
-      climbed_two t = ended (omega arith)
-          (by a
-          (λ p. climbs_not (climbs_more h (omega arith) (sym ea ∙ p)) l (sym eb ∙ sym (ap (λ (x : Bool). x && b) p) ∙ t))
-          (λ p. climbs_not h (omega arith) (sym ea ∙ p)))
-
-    -- and by the last one
-    module _ (l : i < n) {a : Bool} (ea : a ≡ steps_up dd lu i) where
-      pub climbed_last : a ≡ false → Climbed dd lu i
-      climbed_last t = ended l (climbs_not h l (sym ea ∙ t))
-
-      pub climbs_last : a ≡ true → ClimbsSoFar dd lu (i + 1)
-      climbs_last t = climbs_more h l (sym ea ∙ t)
+    pub climbed_all : {m : ℕ} → 1 ≤ i → n ≤ i → i ≡ m → m ≡ n → Climbed dd lu m
+    climbed_all some l e f = record {
+      levels = subst (LevelsRise dd) e (record { some = some; most = omega arith; is = h.ddls.is });
+      all = λ e. rw (rises_end h.ddls (drop_of_length-le dd {i = i} (omega arith)), rises_end h.luminances (drop_of_length-le lu {i = i} (omega arith)));
+      not_all = λ l. absurd (omega arith);
+    }
 
 -- ---- the levels alone, from where it ended
 

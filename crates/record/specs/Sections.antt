@@ -93,23 +93,22 @@ lists_at s n =
 unfoldable pub sections : List ℕ → Result Lists Refusal
 sections s = after (layout_of s) (λ n. Ok (lists_at s n))
 
--- each list of a record; empty where it is refused with 2 to 4
+-- those of a result; empty where the record is refused with 2 to 4
+abbrev pub lists_in : Result Lists Refusal → Lists
+lists_in (Ok l) = l
+lists_in (Err r) = record { settings = []; lamps = []; ddls = []; luminances = []; check = [] }
+
 abbrev pub settings_in : Result Lists Refusal → List ℕ
-settings_in (Ok l) = l.settings
-settings_in (Err r) = []
+settings_in r = (lists_in r).settings
 
 abbrev pub lamps_in : Result Lists Refusal → List ℕ
-lamps_in (Ok l) = l.lamps
-lamps_in (Err r) = []
+lamps_in r = (lists_in r).lamps
 
 abbrev pub ddls_in : Result Lists Refusal → List ℕ
-ddls_in (Ok l) = l.ddls
-ddls_in (Err r) = []
+ddls_in r = (lists_in r).ddls
 
 abbrev pub luminances_in : Result Lists Refusal → List ℕ
-luminances_in (Ok l) = l.luminances
-luminances_in (Err r) = []
+luminances_in r = (lists_in r).luminances
 
 abbrev pub check_in : Result Lists Refusal → List ℕ
-check_in (Ok l) = l.check
-check_in (Err r) = []
+check_in r = (lists_in r).check

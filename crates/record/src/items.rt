@@ -1,7 +1,8 @@
 // A record's sections, read where they lie in its bytes.
 
-ghost use Rattle.std.specs.Prelude.{◌≡◌, ◌+◌, ◌*◌, ◌<◌, ◌≤◌, ℕ, List, length, drop};
-ghost use Rattle.std.specs.Iterator.{YieldsFirst, at_most};
+ghost use Rattle.std.specs.Prelude.{◌≡◌, ◌*◌, ◌<◌, ◌≤◌, ◌++◌, ⊤, ℕ, List, length, drop, IfSome, Some};
+ghost use Rattle.std.specs.Iterator.{YieldsFirst, at_most, UpTo};
+ghost use Rattle.std.specs.Iterator.SizeHint.{IsWithinCount};
 ghost use Rattle.record.specs.Bytes.{word, long, fields};
 
 use crate::{Job, Refusal};
@@ -19,9 +20,9 @@ pub trait Field: Copy {
     // The item at the front of some bytes.
     ghost value: { List ℕ → Self };
 
-    fn read(bytes: &[u8], at: usize) -> Self
-        requires { at + WIDTH ≤ length bytes.now }
-        ensures { result ≡ value (drop at bytes.now) };
+    fn read(bytes: &[u8]) -> Self
+        requires { WIDTH ≤ length bytes.now }
+        ensures { result ≡ value bytes.now };
 }
 
 impl Field for u16 {
@@ -31,8 +32,8 @@ impl Field for u16 {
 
     ghost value = { word 0 };
 
-    fn read(bytes: &[u8], at: usize) -> u16 {
-        u16::from_le_bytes([bytes[at], bytes[at + 1]])
+    fn read(bytes: &[u8]) -> u16 {
+        u16::from_le_bytes([bytes[0], bytes[1]])
     }
 }
 
@@ -43,8 +44,8 @@ impl Field for u32 {
 
     ghost value = { long 0 };
 
-    fn read(bytes: &[u8], at: usize) -> u32 {
-        u32::from_le_bytes([bytes[at], bytes[at + 1], bytes[at + 2], bytes[at + 3]])
+    fn read(bytes: &[u8]) -> u32 {
+        u32::from_le_bytes([bytes[0], bytes[1], bytes[2], bytes[3]])
     }
 }
 
@@ -62,10 +63,10 @@ impl Field for Reading {
 
     ghost value = { λ s. record { ddl = record { 0 = word 0 s }; luminance = record { 0 = long 2 s } } };
 
-    fn read(bytes: &[u8], at: usize) -> Reading {
+    fn read(bytes: &[u8]) -> Reading {
         Reading {
-            ddl: Ddl(u16::read(bytes, at)),
-            luminance: Luminance(u32::read(bytes, at + 2)),
+            ddl: Ddl(u16::read(bytes)),
+            luminance: Luminance(u32::read(&bytes[2..])),
         }
     }
 }
@@ -73,16 +74,20 @@ impl Field for Reading {
 // The items of a section that are left, as an iterator over them and by their places.
 pub struct Items<'a, F: Field> {
     bytes: &'a [u8],
-    // Kept beside the bytes: else each step would divide.
+    // Kept beside the bytes: else it would be a quotient in each contract and in each step.
     count: usize,
     of: PhantomData<F>,
     ghost whole: { length bytes.now ≡ count * F.WIDTH },
 }
 
-// By hand, since no derive takes a ghost field.
+// By hand: neither derive nor derive_where takes a ghost field of a struct with a type parameter.
 impl<'a, F: Field> Copy for Items<'a, F> {}
 
 impl<'a, F: Field> Clone for Items<'a, F> {
+    ghost is_clone = { λ items copy. copy ≡ items };
+
+    ghost is_infallible = { λ _. ⊤ };
+
     fn clone(&self) -> Result<Self, AllocError> {
         Ok(*self)
     }
@@ -112,7 +117,17 @@ impl<'a, F: Field> Items<'a, F> {
         requires { i < self.now.count }
         ensures { result ≡ F.value (drop (i * F.WIDTH) self.now.bytes.now) }
     {
-        F::read(self.bytes, i * F::WIDTH)
+        F::read(&self.bytes[i * F::WIDTH..])
+    }
+
+    // All items, to the front of an array.
+    pub fn fill(&self, array: &mut [F])
+        requires { self.now.count ≤ length array.old }
+        ensures { array.new ≡ fields F.WIDTH F.value self.now.count self.now.bytes.now ++ drop self.now.count array.old }
+    {
+        for (i, item) in array[..self.count].iter_mut().enumerate() {
+            *item = self.get(i);
+        }
     }
 }
 
@@ -127,12 +142,16 @@ impl<'a, F: Field> Iterator for Items<'a, F> {
         if self.count == 0 {
             return None;
         }
-        let x = F::read(self.bytes, 0);
+        let x = F::read(self.bytes);
         *self = Items::new(&self.bytes[F::WIDTH..], self.count - 1);
         Some(x)
     }
 
-    fn size_hint(&self) -> (usize, Option<usize>) {
+    fn size_hint(&self) -> (usize, Option<usize>)
+        ensures lower { IsWithinCount result.0 (at_most self.now.count) }
+        ensures upper { IfSome result.1 (UpTo (at_most self.now.count)) }
+        ensures exact { (result.0 ≡ self.now.count) × (result.1 ≡ Some self.now.count) }
+    {
         (self.count, Some(self.count))
     }
 }

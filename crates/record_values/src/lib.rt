@@ -1,15 +1,14 @@
 // The reader of a job record through the C ABI, on bare numbers: for the comparison by running.
 #![tactic(auto)]
 
-ghost use Rattle.std.specs.Prelude.{◌≡◌, ◌++◌, ◌≤◌, length, drop};
-ghost use Rattle.record.specs.Reader.{values, ddls_of, luminances_of};
+ghost use Rattle.std.specs.Prelude.{◌≡◌};
 ghost use Rattle.record_values.specs.Values.{numbers_of, ValuesOf};
 
-use record::{Field, Items, Job, Reading, Refusal};
+use record::{Job, Refusal};
 
 // An answer in the numbers of document 01; 0 stands for no refusal, and for each value that a refused record does not have. C has no Result and no enum.
 #[repr(C)]
-#[derive(Drop)]
+#[derive(Default, Drop)]
 pub struct Numbers {
     pub refusal: u32,
     pub depth: u16,
@@ -55,37 +54,9 @@ impl From<Result<Job, Refusal>> for Numbers {
             }
             Err(r) => Numbers {
                 refusal: r.into(),
-                depth: 0,
-                meter: 0,
-                class: 0,
-                reflectance: 0,
-                tolerance: 0,
-                lux: 0,
+                ..Default::default()
             },
         }
-    }
-}
-
-// The items of a section, to the front of an array. By place: std says nothing of what an adapter of iter_mut wrote.
-fn fill<F: Field>(items: &Items<'_, F>, array: &mut [F])
-    requires { items.now.count ≤ length array.old }
-    ensures { array.new ≡ values items.now ++ drop items.now.count array.old }
-{
-    for i in 0..items.len() {
-        array[i] = items.get(i);
-    }
-}
-
-// By place: std says nothing of what an adapter of iter_mut wrote.
-fn fill_sweep(sweep: &Items<'_, Reading>, ddls: &mut [u16], luminances: &mut [u32])
-    requires { (sweep.now.count ≤ length ddls.old) × (sweep.now.count ≤ length luminances.old) }
-    ensures ddls { ddls.new ≡ ddls_of sweep.now ++ drop sweep.now.count ddls.old }
-    ensures luminances { luminances.new ≡ luminances_of sweep.now ++ drop sweep.now.count luminances.old }
-{
-    for i in 0..sweep.len() {
-        let reading = sweep.get(i);
-        ddls[i] = reading.ddl.0;
-        luminances[i] = reading.luminance.0;
     }
 }
 
@@ -100,10 +71,10 @@ pub extern "C" fn record_read(bytes: &[u8]) -> RecordValues
             let mut ddls = [0u16; 1024];
             let mut luminances = [0u32; 1024];
             let mut check = [0u32; 18];
-            fill(&found.settings, &mut settings);
-            fill(&found.lamps, &mut lamps);
-            fill_sweep(&found.sweep, &mut ddls, &mut luminances);
-            fill(&found.check, &mut check);
+            found.settings.fill(&mut settings);
+            found.lamps.fill(&mut lamps);
+            found.sweep.fill_sweep(&mut ddls, &mut luminances);
+            found.check.fill(&mut check);
             RecordValues {
                 answer: found.job.into(),
                 given: found.settings.len(),

@@ -2,7 +2,7 @@ use Rattle.std.proofs.Common.{◌∙◌, arith}
 use Rattle.laws.proofs.Fill.{copied_more, copied_all}
 use Rattle.record.proofs.Fields.{fields_length}
 use Rattle.record.proofs.Climbing.{ddl_at, luminance_at}
-use Rattle.record_values.proofs.fill_sweep.Goals as goal
+use Rattle.record.proofs.Items+Reading.fill_sweep.Goals as goal
 
 pub loop-i-preserved : goal.loop-i-preserved
 loop-i-preserved c = (
