@@ -37,16 +37,16 @@ module _ {p s c h : ℕ} (st : Pair p s c h) where
   pair_top : nat_abs (shown_contrast p s c h) ≤ 39934040 * 79868080
   pair_top = shown_top p s c h st.p_in.high st.s_in.high (omega arith) st.h_top
 
-  -- |s − p| × (h + c) ≤ (s + p) × (289,378 × (h − c)), for h + c is at most 79,868,080 and h − c at least 276
-  shown_by_expected : nat_abs (shown_contrast p s c h) ≤ 289378 * expected_contrast p s c h
+  -- |s − p| × (h + c) ≤ (s + p) × (1,699,322 × (h − c)), for h + c is at most 79,868,080 and h − c at least 47
+  shown_by_expected : nat_abs (shown_contrast p s c h) ≤ 1699322 * expected_contrast p s c h
   unfolding expected_contrast
   shown_by_expected =
-      rw (shown_is p s c h) (le_trans (mul-le-mul {n₂ = s + p} {m₂ = 289378 * (h - c)} (omega arith) (omega arith)) (omega (arith, turned)))
+      rw (shown_is p s c h) (le_trans (mul-le-mul {n₂ = s + p} {m₂ = 1699322 * (h - c)} (omega arith) (omega arith)) (omega (arith, turned)))
     where
-      turned : (s + p) * (289378 * (h - c)) ≡ 289378 * ((h - c) * (s + p))
-      turned = mul_comm (s + p) (289378 * (h - c)) ∙ mul_assoc 289378 (h - c) (s + p)
+      turned : (s + p) * (1699322 * (h - c)) ≡ 1699322 * ((h - c) * (s + p))
+      turned = mul_comm (s + p) (1699322 * (h - c)) ∙ mul_assoc 1699322 (h - c) (s + p)
 
-  excess_by_expected : nat_abs (excess p s c h) ≤ 289379 * expected_contrast p s c h
+  excess_by_expected : nat_abs (excess p s c h) ≤ 1699323 * expected_contrast p s c h
   unfolding excess
   excess_by_expected = omega (arith, abs_minus_le (shown_contrast p s c h) (pos (expected_contrast p s c h)), shown_by_expected)
 

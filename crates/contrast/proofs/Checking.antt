@@ -5,12 +5,14 @@ use mathlib.Core.Bool.{Bool, true, false}
 use mathlib.Core.List.{List}
 use Prim.Native.Nat.{ℕ, ◌<◌}
 use lib.IntN.{ℤ}
+use Rattle.std.specs.Prelude.{cond}
 use Rattle.std.specs.declared.result.Result.TheVariants.{Ok, Err}
 use Rattle.record.specs.declared.Refusal.TheVariants.{CheckOutsideTable, CheckRangeTooNarrow}
 use Rattle.gsdf.specs.DisplayFunction.{InTable}
 use Rattle.target.specs.Target.{range_of, too_narrow}
 use Rattle.target.specs.declared.IndexRange.{IndexRange}
 use Rattle.contrast.specs.declared.Limit.{Limit}
+use Rattle.contrast.specs.declared.Verdict.{Verdict}
 use Rattle.contrast.specs.declared.Verdict.TheVariants.{Pass, Fail}
 use Rattle.contrast.specs.Check.{some_outside, check_too_narrow, verdict_of, contrast_of, deviations_over, Checked, Covers, InPlace}
 use Rattle.contrast.proofs.Laws.{all_inside, narrow_is, covers}
@@ -42,16 +44,9 @@ module _ (v : ℕ → ℕ) {outside : Bool} (tested : outside ≡ some_outside v
       found_range = rw is (covers v (sym tested ∙ none) (sym tested_narrow ∙ e))
 
       module _ (limit : Limit) {kept : Bool} {before after : List ℤ} (f : InPlace limit v kept before after) where
-        pub judged_pass : kept ≡ true → Checked limit v (Ok Pass) before after
+        pub judged : {x : Verdict} → x ≡ cond kept Pass Fail → Checked limit v (Ok x) before after
         unfolding contrast_of deviations_over verdict_of
-        judged_pass k =
+        judged k =
             let o : some_outside v ≡ false = sym tested ∙ none in
             let t : check_too_narrow v ≡ false = sym tested_narrow ∙ e in
-            record { answers = simp (o, t, sym f.verdict ∙ k); places = simp (o, t) f.places }
-
-        pub judged_fail : kept ≡ false → Checked limit v (Ok Fail) before after
-        unfolding contrast_of deviations_over verdict_of
-        judged_fail k =
-            let o : some_outside v ≡ false = sym tested ∙ none in
-            let t : check_too_narrow v ≡ false = sym tested_narrow ∙ e in
-            record { answers = simp (o, t, sym f.verdict ∙ k); places = simp (o, t) f.places }
+            record { answers = rw k (simp (o, t, sym f.verdict)); places = simp (o, t) f.places }

@@ -20,10 +20,11 @@ use Rattle.laws.proofs.Fill.{Filled, filled_none, filled_more}
 use Rattle.gsdf.specs.Ends.{below_table, above_table}
 use Rattle.contrast.specs.Deviation.{deviation_of, keeps_limit}
 use Rattle.target.proofs.Aiming.{filled_all}
+use Rattle.target.specs.Target.{target_at}
 use Rattle.target.specs.declared.IndexRange.{IndexRange}
-use Rattle.contrast.specs.Check.{shown, some_outside, expected_luminance, expected, at_pair, deviations_of, limit_parts, Covers, InPlace, Pair}
+use Rattle.contrast.specs.Check.{shown, some_outside, expected_luminance, at_pair, deviations_of, limit_parts, Covers, InPlace, Pair}
 use Rattle.contrast.specs.declared.Limit.{Limit}
-use Rattle.contrast.proofs.Laws.{expected_is, pair_at_lem, deviation_fits}
+use Rattle.contrast.proofs.Laws.{expected_is, pair_of, deviation_fits}
 
 -- ---- test 12
 
@@ -47,39 +48,42 @@ tested_is added readings long false h =
 
 -- ---- the deviations
 
--- the first i deviations are filled, each of those pairs is judged, and p and c are the luminances at patch i
-pub record Filling (limit : Limit) (v : ℕ → ℕ) (before places : List ℤ) (kept : Bool) (p c i : ℕ) : Type 0 where
+-- the first i deviations are filled, each of those pairs is judged, and p and c are the luminances at patch i, where the range has so many steps
+pub record Filling (limit : Limit) (v : ℕ → ℕ) (indices : IndexRange) (steps : ℕ) (before places : List ℤ) (kept : Bool) (p c i : ℕ) : Type 0 where
   pub shown_is : p ≡ v i
-  pub expected_is : c ≡ expected v i
+  pub target_is : c ≡ target_at indices.low.0 indices.range.0 steps i
   pub filled : Filled (at_pair deviation_of v) before places i
   pub kept_is : kept ≡ all (at_pair (keeps_limit (limit_parts limit)) v) i
 
 module _ {v : ℕ → ℕ} {indices : IndexRange} (s : Covers v indices) where
-  pub filling_none : (limit : Limit) (before : List ℤ) {p c : ℕ} → p ≡ v 0 → c ≡ expected_luminance indices.low.0 indices.range.0 0
-      → Filling limit v before before true p c 0
-  unfolding all
-  filling_none limit before p-is c-is = record {
-    shown_is = p-is;
-    expected_is = c-is ∙ expected_is s 0;
-    filled = filled_none _ before;
-    kept_is = refl;
-  }
+  module _ {steps : ℕ} where
+    pub filling_none : (limit : Limit) (before : List ℤ) {p c : ℕ} → p ≡ v 0 → c ≡ target_at indices.low.0 indices.range.0 steps 0
+        → Filling limit v indices steps before before true p c 0
+    unfolding all
+    filling_none limit before p-is c-is = record {
+      shown_is = p-is;
+      target_is = c-is;
+      filled = filled_none _ before;
+      kept_is = refl;
+    }
 
-  module _ {limit : Limit} {before places : List ℤ} {kept : Bool} {p c i : ℕ} (f : Filling limit v before places kept p c i) where
+    -- two patches are a pair, also where the range has more steps than there are pairs
+    pub filling_pair : {limit : Limit} {before places : List ℤ} {kept : Bool} {p c i : ℕ} → Filling limit v indices steps before places kept p c i
+        → 17 ≤ steps → steps ≤ 100 → i < 17 → {n h : ℕ} → n ≡ v (i + 1) → h ≡ target_at indices.low.0 indices.range.0 steps (i + 1) → Pair p n c h
+    filling_pair f least most more n_is h_is = rw (f.shown_is, n_is, f.target_is, h_is) (pair_of s steps least most _ more)
+
+  module _ {limit : Limit} {before places : List ℤ} {kept : Bool} {p c i : ℕ} (f : Filling limit v indices 17 before places kept p c i) where
     -- the luminances at the next patch
     module _ (more : i < 17) {n h : ℕ} (n_is : n ≡ v (i + 1)) (h_is : h ≡ expected_luminance indices.low.0 indices.range.0 (i + 1)) where
-      pub filling_pair : Pair p n c h
-      filling_pair = rw (f.shown_is, n_is, f.expected_is, h_is, expected_is s (i + 1)) (pair_at_lem s i more)
-
       at_patch {ℓ} : {A : Type ℓ} (g : (p s c h : ℕ) → A) → g p n c h ≡ at_pair g v i
       unfolding at_pair
-      at_patch g = rw (f.shown_is, n_is, f.expected_is, h_is, expected_is s (i + 1))
+      at_patch g = rw (f.shown_is, n_is, f.target_is, h_is, expected_is s i, expected_is s (i + 1))
 
       pub filling_more : i < length before → (d : ℤ) (keeps : Bool) → d ≡ deviation_of p n c h → keeps ≡ keeps_limit (limit_parts limit) p n c h
-          → Filling limit v before (set places i (to_z w32 (of_z w32 d))) (kept && keeps) n h (i + 1)
+          → Filling limit v indices 17 before (set places i (to_z w32 (of_z w32 d))) (kept && keeps) n h (i + 1)
       filling_more l d keeps d-is k-is = record {
         shown_is = n_is;
-        expected_is = h_is ∙ expected_is s (i + 1);
+        target_is = h_is;
         filled = filled_more _ before places i _ f.filled l (rw (d-is ∙ at_patch deviation_of) (to_z-of_z w32 _ (deviation_fits s i more)));
         kept_is = rw (f.kept_is, k-is ∙ at_patch (keeps_limit (limit_parts limit))) (sym (all_next (at_pair (keeps_limit (limit_parts limit)) v) i));
       }

@@ -3,7 +3,7 @@
 use mathlib.Core.Path.{◌≡◌, refl, sym, ◌∙◌}
 use mathlib.Core.Bool.{true, false, ◌||◌}
 use mathlib.Core.Logic.{⊎_elim}
-use Prim.Native.Nat.{ℕ, ◌+◌, ◌-◌, ◌*◌, ◌/◌, ◌≤◌, ◌<◌}
+use Prim.Native.Nat.{ℕ, ◌+◌, ◌-◌, ◌*◌, ◌≤◌, ◌<◌}
 use native.Mathlib.Omega.{arith}
 use lib.IntN.{pos}
 use lib.ListN.{length, get_or}
@@ -12,7 +12,6 @@ use mir.Val.{SFits}
 use mir.Facts.{or_no}
 use borrow.Author.Tests.{le-ltb, lt-ltb}
 use Rattle.laws.proofs.Cases.{is_no, yes_is, no_is, le_or_lt}
-use Rattle.laws.proofs.Numbers.{times_next}
 use Rattle.laws.proofs.Search.{none_of}
 use Rattle.laws.proofs.Fill.{length_tab, get_or_tab}
 use Rattle.laws.proofs.Signed.{minus_below, minus_not_below}
@@ -22,7 +21,7 @@ use Rattle.gsdf.proofs.Ends.{not_below, not_above}
 use Rattle.gsdf.proofs.Laws.{luminance_far, luminance_mono, index_low, index_high}
 use Rattle.target.specs.Target.{range_of, too_narrow, index_at, target_at, Aims}
 use Rattle.target.specs.declared.IndexRange.{IndexRange}
-use Rattle.target.proofs.Laws.{index_to, target_high}
+use Rattle.target.proofs.Laws.{index_from, index_to, index_apart, target_high}
 use Rattle.contrast.specs.Deviation.{deviation_of}
 use Rattle.contrast.specs.Check.{some_outside, check_range, check_too_narrow, expected_luminance, expected, at_pair, deviations_of, Covers, Pair}
 use Rattle.contrast.proofs.Bounds.{per_mille_fits}
@@ -67,21 +66,18 @@ covers v e n = record {
   wide = omega (arith, wide_of v n);
 }
 
--- ---- the luminances expected in a range of indices: one patch on, the index rises by 588 or more, and the luminance by 276 or more
+-- ---- the targets in a range of indices: where n indices fit into each step, a target is more than (47 × n − 100) / 100 above the one before
 
-luminance_next : (first range : ℕ) → 100 ≤ first → first + range ≤ 102300 → 10000 ≤ range → (i : ℕ) → i < 17
-    → expected_luminance first range i + 276 ≤ expected_luminance first range (i + 1)
-unfolding target_at index_at
-luminance_next first range low high wide i h =
-    let here = first + range * i / 17 in
-    let next = first + range * (i + 1) / 17 in
-    let far : here + 588 ≤ next = omega (arith, times_next range i) in
-    let top : next ≤ 102300 = index_to first range 17 low high (omega arith) (i + 1) (omega arith) in
-    omega (
-      arith,
-      luminance_far here 588 (omega arith) (omega arith),
-      luminance_mono (here + 588) next (omega arith) far top,
-    )
+luminance_next : (first range steps n : ℕ) → 100 ≤ first → first + range ≤ 102300 → 1 ≤ steps → n * steps ≤ range → (i : ℕ) → i < steps
+    → 100 * target_at first range steps i + 47 * n < 100 * target_at first range steps (i + 1) + 100
+unfolding target_at
+luminance_next first range steps n low high some fit i h =
+    let here = index_at first range steps i in
+    let next = index_at first range steps (i + 1) in
+    let from : 100 ≤ here = omega (arith, index_from first range steps i) in
+    let far : here + n ≤ next = index_apart first range steps low high some n fit i in
+    let top : next ≤ 102300 = index_to first range steps low high some (i + 1) (omega arith) in
+    omega (arith, luminance_far here n from (omega arith), luminance_mono (here + n) next (omega arith) far top)
 
 -- ---- a check that passes both tests
 
@@ -104,19 +100,26 @@ module _ {v : ℕ → ℕ} {indices : IndexRange} (s : Covers v indices) where
 
   -- the expected luminances rise by 276 or more from a patch to the next
   pub expected_rises : (i : ℕ) → i < 17 → expected v i + 276 ≤ expected v (i + 1)
-  expected_rises i h = rw (← expected_is i, ← expected_is (i + 1)) (luminance_next indices.low.0 indices.range.0 aims_17.first aims_17.last s.wide i h)
+  expected_rises i h =
+      rw (← expected_is i, ← expected_is (i + 1))
+      (omega (arith, luminance_next indices.low.0 indices.range.0 17 588 aims_17.first aims_17.last aims_17.some (omega (arith, s.wide)) i h))
 
   pub expected_high : (i : ℕ) → i ≤ 17 → expected v i ≤ 39934040
   expected_high i h = rw (← expected_is i) (target_high indices.low.0 indices.range.0 17 aims_17.first aims_17.last aims_17.some i h)
 
-  -- so each pair has a deviation, and it is a number of 32 bits
-  pub pair_at_lem : (i : ℕ) → i < 17 → Pair (v i) (v (i + 1)) (expected v i) (expected v (i + 1))
-  pair_at_lem i h = record {
+  -- two patches are a pair with the targets of any number of steps into each of which 100 indices fit
+  pub pair_of : (steps : ℕ) → 17 ≤ steps → steps ≤ 100 → (i : ℕ) → i < 17
+      → Pair (v i) (v (i + 1)) (target_at indices.low.0 indices.range.0 steps i) (target_at indices.low.0 indices.range.0 steps (i + 1))
+  pair_of steps least most i h = record {
     p_in = s.inside i (omega arith);
     s_in = s.inside (i + 1) (omega arith);
-    h_top = expected_high (i + 1) (omega arith);
-    rise = expected_rises i h;
+    h_top = target_high indices.low.0 indices.range.0 steps aims_17.first aims_17.last (omega arith) (i + 1) (omega arith);
+    rise = omega (arith, luminance_next indices.low.0 indices.range.0 steps 100 aims_17.first aims_17.last (omega arith) (omega (arith, s.wide)) i (omega arith));
   }
+
+  -- so with 17 each pair has a deviation, and it is a number of 32 bits
+  pub pair_at_lem : (i : ℕ) → i < 17 → Pair (v i) (v (i + 1)) (expected v i) (expected v (i + 1))
+  pair_at_lem i h = rw (← expected_is i, ← expected_is (i + 1)) (pair_of 17 (omega arith) (omega arith) i h)
 
   pub deviation_fits : (i : ℕ) → i < 17 → SFits w32 (at_pair deviation_of v i)
   unfolding at_pair

@@ -54,12 +54,12 @@ impl Limit {
 struct Patches<'a> {
     readings: &'a [u32],
     added: Luminance,
+    ghost patches: { 18 ≤ length readings.now },
 }
 
 impl Patches<'_> {
     // Test 12; a sum may need more than 32 bits.
     fn some_outside(&self) -> bool
-        requires { 18 ≤ length self.now.readings.now }
         ensures { result ≡ some_outside (shown self.now.added.0 self.now.readings.now) }
     {
         self.readings[..18].iter().any(|reading| {
@@ -70,7 +70,7 @@ impl Patches<'_> {
 
     // The luminance shown at patch i.
     fn shown(&self, i: usize) -> Luminance
-        requires { (i < length self.now.readings.now) × InTable (shown self.now.added.0 self.now.readings.now i) }
+        requires { (i < 18) × InTable (shown self.now.added.0 self.now.readings.now i) }
         ensures { result.0 ≡ shown self.now.added.0 self.now.readings.now i }
     {
         Luminance(self.added.0 + self.readings[i])
@@ -78,16 +78,17 @@ impl Patches<'_> {
 
     // The 17 deviations, into the front of a slice; the answer is whether each pair keeps the limit.
     fn fill_deviations(&self, indices: IndexRange, limit: Limit, deviations: &mut [i32]) -> bool
-        requires { Checkable self.now.readings.now deviations.old × Covers (shown self.now.added.0 self.now.readings.now) indices }
+        requires { (17 ≤ length deviations.old) × Covers (shown self.now.added.0 self.now.readings.now) indices }
         ensures { InPlace limit (shown self.now.added.0 self.now.readings.now) result deviations.old deviations.new }
     {
         // The answer, and no early end: each pair has a deviation, also after one that fails.
         let mut kept = true;
         let mut here = self.shown(0);
-        let mut low = indices.target_at(PValue(17), PValue(0));
+        let pairs = PValue(17);
+        let mut low = indices.target_at(pairs, PValue(0));
         for (i, deviation) in deviations[..17].iter_mut().enumerate() {
             let next = self.shown(i + 1);
-            let high = indices.target_at(PValue(17), PValue(i as u16 + 1));
+            let high = indices.target_at(pairs, PValue(i as u16 + 1));
             let pair = Neighbours {
                 here,
                 next,

@@ -41,6 +41,12 @@ module _ (d1 l1 d2 l2 : ℕ) where
       pub interpolate_high : (d : ℕ) → d ≤ d2 → interpolate d1 l1 d2 l2 d ≤ l2
       interpolate_high d h = omega (arith, interpolate_last, interpolate_mono d d2 h)
 
+-- ---- the points of the line between two readings
+
+-- at the first reading, no part of a unit is there
+pub point_first : (l1 rise width : ℕ) → 0 < width → PointAt l1 rise width 0 l1 0
+point_first l1 rise width some = record { below = some; is = rw mul-zero }
+
 -- the luminance of a point is the value between the readings
 pub point_is : {l1 rise width k l part : ℕ} → PointAt l1 rise width k l part → l ≡ interpolate 0 l1 width (l1 + rise) k
 unfolding interpolate

@@ -34,7 +34,7 @@ struct Found<'a> {
     ghost some_table: { has_no_table (given problem.curve.now problem.targets.now problem.tolerance) ≡ false },
 }
 
-// The luminances that are allowed around a target. A std Range is no plainer: its ends have no names of their own.
+// The luminances that are allowed around a target. A std Range too ends past the last, but would not call its ends dark and bright.
 #[derive(Clone, Copy)]
 struct Band {
     // The lowest of them.
@@ -179,8 +179,8 @@ impl Found<'_> {
         ensures { result ≡ run_of (given_of self.now.problem) p }
     {
         Run {
-            from: self.starts[p] as usize,
-            to: self.ends[p] as usize,
+            from: usize::from(self.starts[p]),
+            to: usize::from(self.ends[p]),
         }
     }
 
@@ -208,7 +208,7 @@ impl Found<'_> {
         // By hand: std's partition_point searches a slice, and this halves a range of numbers.
         let mut low: u64 = 0;
         let mut high = bound;
-        // Whether the rows are filled for `high`.
+        // Whether the rows are filled for `high`. No value stands beside it.
         let mut ready = false;
         while low < high {
             let middle = low + (high - low) / 2;

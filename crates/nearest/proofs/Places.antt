@@ -11,6 +11,17 @@ use Rattle.nearest.proofs.Laws.{nearest_is}
 
 -- ---- the walk
 
+-- before the first level of any curve, a place is past no target
+pub at_start : (curve : List ℕ) (t : ℕ) {place : Place} → place.below ≡ 0 → place.above ≡ 0 → place.dark.0 ≡ get_or curve 0 0 → NotPast curve t place
+at_start curve t first none dark = record {
+  inside = omega arith;
+  order = omega arith;
+  dark_is = rw first dark;
+  under = λ d l. omega arith;
+  equal = λ d a l. omega arith;
+  darker = λ d l. omega arith;
+}
+
 module _ {curve : List ℕ} {t : ℕ} {place : Place} (h : NotPast curve t place) where
   -- not past a brighter target either
   pub not_past_later : (u : ℕ) → t ≤ u → NotPast curve u place

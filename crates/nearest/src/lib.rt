@@ -103,6 +103,7 @@ pub fn fill_table(curve: &[u32], targets: &[u32], table: &mut [u16]) -> Luminanc
 {
     let mut place = Place::start(curve);
     let mut largest = Luminance(0);
+    // By place: over `zip` the invariant can name the pairs so far, and not the table.
     for (p, &target) in targets.iter().enumerate() {
         let target = Luminance(target);
         place = place.advance(target);

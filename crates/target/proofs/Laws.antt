@@ -65,15 +65,18 @@ module _ (low range top : ℕ) where
     unfolding target_at
     target_high p h = luminance_high (index_at low range top p) (omega (arith, index_from p)) (index_to p h)
 
+    -- where top times n indices fit into the range, the index rises by n at least from one P-value to the next
+    pub index_apart : (n : ℕ) → n * top ≤ range → (p : ℕ) → index_at low range top p + n ≤ index_at low range top (p + 1)
+    unfolding index_at
+    index_apart n fit p =
+        let more : range * p + n * top ≤ range * (p + 1) = omega (arith, times_next range p) in
+        omega (arith, add-mul-div_right (range * p) n {z = top} (omega arith), quotient_mono (range * p + n * top) (range * (p + 1)) top (omega arith) more)
+
     -- ---- a range that test 10 lets through, and at most 1,024 P-values
 
     module _ (wide : 10000 ≤ range) (most : top ≤ 1023) where
-      -- from one P-value to the next the index rises by 3 at least
       pub index_far : (p : ℕ) → index_at low range top p + 3 ≤ index_at low range top (p + 1)
-      unfolding index_at
-      index_far p =
-          let more : range * p + 3 * top ≤ range * (p + 1) = omega (arith, times_next range p) in
-          omega (arith, add-mul-div_right (range * p) 3 {z = top} (omega arith), quotient_mono (range * p + 3 * top) (range * (p + 1)) top (omega arith) more)
+      index_far p = index_apart 3 (omega arith) p
 
       -- so targets rise strictly
       target_next : Grows (target_at low range top) 1 0 top

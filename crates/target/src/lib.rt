@@ -64,7 +64,7 @@ impl IndexRange {
         requires { Aims self.low.0 self.range.0 top.0 × (top.0 < length targets.old) }
         ensures { targets.new ≡ targets_of self.low.0 self.range.0 top.0 ++ drop (top.0 + 1) targets.old }
     {
-        for (p, target) in targets[..=top.0 as usize].iter_mut().enumerate() {
+        for (p, target) in targets[..=usize::from(top.0)].iter_mut().enumerate() {
             *target = self.target_at(top, PValue(p as u16)).0;
         }
     }

@@ -1,16 +1,16 @@
 -- Assumes nothing.
 use native.Mathlib.Omega.{arith}
-use Rattle.contrast.proofs.Checking.{found_outside, found_inside, found_narrow, found_range, judged_pass, judged_fail}
+use Rattle.contrast.proofs.Checking.{found_outside, found_inside, found_narrow, found_range, judged}
 use Rattle.contrast.proofs.check.Goals as goal
 
 pub returns-then-some_outside : goal.returns-then-some_outside
 returns-then-some_outside c = found_outside _ c.some_outside.ensures _ _ c.if-some_outside.true
 
 pub shown-black-requires : goal.shown-black-requires
-shown-black-requires c = (omega (arith, c.requires.patches), found_inside _ c.some_outside.ensures c.if-some_outside.false _ (omega arith))
+shown-black-requires c = (omega arith, found_inside _ c.some_outside.ensures c.if-some_outside.false _ (omega arith))
 
 pub shown-white-requires : goal.shown-white-requires
-shown-white-requires c = (omega (arith, c.requires.patches), found_inside _ c.some_outside.ensures c.if-some_outside.false _ (omega arith))
+shown-white-requires c = (omega arith, found_inside _ c.some_outside.ensures c.if-some_outside.false _ (omega arith))
 
 pub index_range-indices-requires : goal.index_range-indices-requires
 index_range-indices-requires c =
@@ -25,16 +25,16 @@ returns-then-is_too_narrow c =
 pub fill_deviations-requires : goal.fill_deviations-requires
 fill_deviations-requires c =
     let is = rw (c.shown-black.ensures, c.shown-white.ensures) at c.index_range-indices.ensures in
-    (c.requires, found_range _ c.some_outside.ensures c.if-some_outside.false is c.is_too_narrow.ensures c.if-is_too_narrow.false)
+    (c.requires.fits, found_range _ c.some_outside.ensures c.if-some_outside.false is c.is_too_narrow.ensures c.if-is_too_narrow.false)
 
 pub returns-then-fill_deviations : goal.returns-then-fill_deviations
 returns-then-fill_deviations c =
     let is = rw (c.shown-black.ensures, c.shown-white.ensures) at c.index_range-indices.ensures in
-    judged_pass _ c.some_outside.ensures c.if-some_outside.false is c.is_too_narrow.ensures c.if-is_too_narrow.false _ c.fill_deviations.ensures
-    c.if-fill_deviations.true
+    judged _ c.some_outside.ensures c.if-some_outside.false is c.is_too_narrow.ensures c.if-is_too_narrow.false _ c.fill_deviations.ensures
+    (rw c.if-fill_deviations.true)
 
 pub returns-else-fill_deviations : goal.returns-else-fill_deviations
 returns-else-fill_deviations c =
     let is = rw (c.shown-black.ensures, c.shown-white.ensures) at c.index_range-indices.ensures in
-    judged_fail _ c.some_outside.ensures c.if-some_outside.false is c.is_too_narrow.ensures c.if-is_too_narrow.false _ c.fill_deviations.ensures
-    c.if-fill_deviations.false
+    judged _ c.some_outside.ensures c.if-some_outside.false is c.is_too_narrow.ensures c.if-is_too_narrow.false _ c.fill_deviations.ensures
+    (rw c.if-fill_deviations.false)

@@ -17,7 +17,7 @@ target_at-high-requires c = (aims c.requires.1 (omega arith) (omega arith), omeg
 
 pub invariant_of-pair : goal.invariant_of-pair
 invariant_of-pair c = record {
-  bounded = filling_pair c.requires.1 c.loop-i.invariant (omega (arith, length-take {A = ℤ})) c.shown-next.ensures c.target_at-high.ensures;
+  bounded = filling_pair c.requires.1 c.loop-i.invariant (omega arith) (omega arith) (omega (arith, length-take {A = ℤ})) c.shown-next.ensures c.target_at-high.ensures;
 }
 
 pub loop-i-preserved : goal.loop-i-preserved

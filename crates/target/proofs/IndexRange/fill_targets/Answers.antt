@@ -18,6 +18,6 @@ loop-p-preserved c = filled_more _ _ _ _ _ c.loop-p.invariant (omega (arith, c.l
 pub returns : goal.returns
 unfolding targets_of
 returns c =
-    let long : length (take (c.args.top.0 + 1) c.args.targets.now) ≡ c.args.top.0 + 1 = length-take-le _ _ (omega arith) in
+    let long : length (take (c.from.result + 1) c.args.targets.now) ≡ c.from.result + 1 = length-take-le _ _ (omega arith) in
     let all : c.loop-p.p ≡ c.args.top.0 + 1 = omega arith in
-    rw (filled_all c.loop-p.invariant c.loop-p-test.false, all) refl
+    rw (filled_all c.loop-p.invariant c.loop-p-test.false, all, c.from.ensures) refl
