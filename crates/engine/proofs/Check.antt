@@ -1,12 +1,13 @@
 -- The contrast check of a record: each way that the operation ends.
 -- Assumes nothing.
 use mathlib.Core.Path.{◌≡◌, refl, sym, ap, subst, ◌∙◌}
-use mathlib.Core.List.{List}
+use mathlib.Core.List.{List, ◌++◌, append-nil}
 use mathlib.Core.Logic.{⊎_elim}
 use Prim.Native.Nat.{ℕ, ◌≤◌, ◌<◌}
+use native.Mathlib.Omega.{arith}
 use lib.Dec.{eqb}
 use lib.IntN.{ℤ}
-use lib.ListN.{length}
+use lib.ListN.{length, drop, drop_of_length-le}
 use mir.Facts.{or_yes, eqb_yes}
 use borrow.Author.Tests.{le-ltb, lt-ltb}
 use Rattle.std.specs.Prelude.{Option, Some, None, Result, Ok, Err}
@@ -61,12 +62,15 @@ module _ (bytes : List ℕ) (before : List ℤ) where
           let n : length (check_in (sections bytes)) ≡ 0 = rw (← check_is p.read, fields_length) z in
           ended sound (rw n refl) (rw n refl)
 
-      pub check_made : {readings : List ℕ} {limit : Limit} {found : Result Verdict Refusal} {answer : Result (Option Verdict) Refusal} {places : List ℤ} → (tested.found.check.count ≡ 0 → ⊥)
-          → readings ≡ values tested.found.check → limit ≡ limit_of tested.job.settings.class → Checked limit (shown tested.light.added.0 readings) found before places
+      -- its readings fill an array of 18
+      pub check_made : (array : List ℕ) {readings : List ℕ} {limit : Limit} {found : Result Verdict Refusal} {answer : Result (Option Verdict) Refusal} {places : List ℤ}
+          → (tested.found.check.count ≡ 0 → ⊥) → length array ≡ 18 → readings ≡ values tested.found.check ++ drop tested.found.check.count array → limit ≡ limit_of tested.job.settings.class → Checked limit (shown tested.light.added.0 readings) found before places
           → answer ≡ after found (λ verdict. Ok (Some verdict)) → CheckPromise bytes before places answer
       unfolding check_of places_of
-      check_made {readings = readings} {limit = limit} {found = found} {places = places} some e l h a =
-          let n : length (check_in (sections bytes)) ≡ 18 = rw (← check_is p.read, fields_length) (all_read p some) in
+      check_made array {readings = readings} {limit = limit} {found = found} {places = places} some m f l h a =
+          let all = all_read p some in
+          let n : length (check_in (sections bytes)) ≡ 18 = rw (← check_is p.read, fields_length) all in
+          let e : readings ≡ values tested.found.check = f ∙ rw (drop_of_length-le array {i = tested.found.check.count} (omega (arith, all, m)), append-nil) in
           let lit = subst (λ (x : Light). Checked limit (shown x.added.0 readings) found before places) p.light h in
           let limited = subst (λ (x : Limit). Checked x (shown (added_of tested.job) readings) found before places) l lit in
           let own = subst (λ (xs : List ℕ). Checked (limit_of tested.job.settings.class) (shown (added_of tested.job) xs) found before places) (e ∙ check_is p.read) limited in

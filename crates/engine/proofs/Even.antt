@@ -1,6 +1,6 @@
 -- The even table of a record: each way that the operation ends.
 -- Assumes nothing.
-use Prim.Native.Nat.{ℕ}
+use Prim.Native.Nat.{ℕ, ◌≤◌}
 use mathlib.Core.Path.{◌≡◌, refl, sym, ap, ◌∙◌}
 use mathlib.Core.List.{List}
 use mathlib.Core.Bool.{true, false}
@@ -19,7 +19,7 @@ use Rattle.engine.specs.Even.{outcome_answer, too_little, even_answer, even_lent
 use Rattle.engine.specs.Drawing.{Drawn}
 use Rattle.engine.specs.declared.TestedJob.{TestedJob}
 use Rattle.engine.proofs.Clashes.{ok_err}
-use Rattle.engine.proofs.EvenTerms.{workable}
+use Rattle.engine.proofs.EvenTerms.{workable_within}
 use Rattle.engine.proofs.EvenOutcomes.{lent_enough, promised}
 use Rattle.engine.proofs.Soundness.{sound_job}
 
@@ -36,10 +36,13 @@ words_kept : (x : Given) {before after words words_after : List ℕ} {outcome : 
 unfolding outcome_of
 words_kept x h r e = by (has_no_table x) h.words_without_table (λ f. absurd (ok_err (simp (h.answers, f) at e)))
 
--- a job that is drawn is a problem of the even table
-pub curve_workable : {bytes curve targets : List ℕ} {tested : TestedJob} {levels : ℕ} → Drawn bytes tested levels curve targets
-    → Workable (given (take levels curve) targets tested.job.settings.tolerance)
-curve_workable d = workable (sound_job _ _ d.is)
+module _ {bytes curve targets : List ℕ} {tested : TestedJob} {levels : ℕ} (d : Drawn bytes tested levels curve targets) where
+  pub error_high : tested.job.settings.tolerance ≤ 1000
+  error_high = (sound_job _ _ d.is).tolerance
+
+  -- a job that is drawn is a problem of the even table, with any allowed error in range
+  pub curve_workable : (tolerance : ℕ) → tolerance ≤ 1000 → Workable (given (take levels curve) targets tolerance)
+  curve_workable tolerance h = workable_within (sound_job _ _ d.is) tolerance h
 
 module _ (bytes before words : List ℕ) where
   -- nothing was written
@@ -61,9 +64,9 @@ module _ (bytes before words : List ℕ) where
         unchanged r (simp (long, e)) (simp (long, e))
 
     module _ {tested : TestedJob} {levels : ℕ} {curve targets : List ℕ} (d : Drawn bytes tested levels curve targets) where
-      pub has_room : (starts ends : List ℕ) → length starts ≡ 256 → length ends ≡ 256
-          → Room (given (take levels curve) targets tested.job.settings.tolerance) starts ends before words
-      has_room starts ends n m =
+      pub has_room : (tolerance : ℕ) (starts ends : List ℕ) → length starts ≡ 256 → length ends ≡ 256
+          → Room (given (take levels curve) targets tolerance) starts ends before words
+      has_room tolerance starts ends n m =
           let known = sound_job bytes _ d.is in
           record {
             starts_fit = omega (arith, known.values);

@@ -15,7 +15,7 @@ use Rattle.curve.specs.Curve.{Sweep}
 use Rattle.curve.proofs.Laws as curve
 use Rattle.target.proofs.Laws as target
 use Rattle.even.specs.Even as lists
-use Rattle.even.specs.Filled.{Workable}
+use Rattle.even.specs.Filled.{given, Workable}
 use Rattle.engine.specs.Sound.{SoundJob, IsSound, added_of, top_of}
 use Rattle.engine.specs.Conditions.{F, jlo, N, GoesOn, made_by}
 use Rattle.engine.specs.Even.{given_by, w, t, WithinError, AllowedTable, step_deviation_at, worst_step, IsEvenTable}
@@ -23,21 +23,24 @@ use Rattle.engine.proofs.Conditions.{went_on}
 use Rattle.engine.proofs.Reading.{sweep_of}
 use Rattle.engine.proofs.Soundness.{sound_job}
 
--- curve and targets of a sound job, with its allowed error, are what the even table asks
-pub workable : {job : SoundJob} → IsSound job → Workable (given_by job)
-workable s = record {
+-- curve and targets of a sound job, with its allowed error or another one in range, are what the even table asks
+pub workable_within : {job : SoundJob} → IsSound job → (tolerance : ℕ) → tolerance ≤ 1000 → Workable (given job.curve job.targets tolerance)
+workable_within s tolerance h = record {
   usable = record {
     some_level = omega (arith, s.levels_low);
     some_target = omega (arith, s.values);
     curve_keeps = s.curve_keeps;
     targets_rise = λ p l. s.targets_rise p (suc p) (omega arith) (omega (arith, s.values));
-    tolerance_high = s.tolerance;
+    tolerance_high = h;
   };
   levels = s.levels_high;
   values = omega (arith, s.values);
   curve_small = λ d l. omega (arith, (s.curve_in d l).high);
   targets_small = λ p l. omega (arith, (s.targets_in p (omega (arith, s.values))).high);
 }
+
+pub workable : {job : SoundJob} → IsSound job → Workable (given_by job)
+workable s = workable_within s _ s.tolerance
 
 -- x has the curve, the targets and the allowed error of a job
 pub record Spells (bytes : List ℕ) (job : Job) (x : lists.Given) : Type 0 where

@@ -2,7 +2,7 @@
 -- Assumes nothing.
 use mathlib.Core.Path.{◌≡◌, sym, ap, ◌∙◌}
 use mathlib.Core.List.{List}
-use Prim.Native.Nat.{ℕ, ◌+◌, ◌-◌, ◌≤◌}
+use Prim.Native.Nat.{ℕ, ◌+◌, ◌-◌, ◌≤◌, ◌<◌}
 use native.Mathlib.Numerals.{add-one}
 use native.Mathlib.Omega.{arith}
 use lib.ListN.{length, get_or}
@@ -16,8 +16,10 @@ use Rattle.record.specs.Accepted.{AcceptedJob}
 use Rattle.record.specs.declared.Refusal.{Refusal}
 use Rattle.record.specs.declared.Job.{Job}
 use Rattle.record.specs.declared.items.JobRecord.{JobRecord}
+use Rattle.record.specs.declared.items.Reading.{Reading}
 use Rattle.record.proofs.Accepted.{accepted_job}
 use Rattle.record.proofs.Fields.{fields_length}
+use Rattle.record.proofs.Climbing.{ReadAt, luminance_at}
 use Rattle.units.specs.declared.Luminance.{Luminance}
 use Rattle.record.specs.Tests.{answer_of}
 use Rattle.curve.specs.Room.{room_mark}
@@ -28,7 +30,7 @@ use Rattle.engine.specs.Sound.{room_of, added_of, top_of, range_tests, measured,
 use Rattle.engine.specs.Drawing.{light_of, sweep_tests, PassedTests}
 use Rattle.engine.specs.declared.Light.{Light}
 use Rattle.engine.specs.declared.TestedJob.{TestedJob}
-use Rattle.engine.proofs.Measuring.{Measurable, climbs, faulted}
+use Rattle.engine.proofs.Measuring.{Measurable, faulted}
 
 -- ---- a record
 
@@ -77,6 +79,12 @@ module _ {s : List ℕ} {r : JobRecord} (h : ReadFrom s (Ok r)) where
     display : Measurable job (ddls_in (sections s)) (luminances_in (sections s))
     display = measurable (accepted_job s job is_accepted)
 
+    -- no reading is darker than the first
+    pub in_order : {first reading : Reading} (i : ℕ) → ReadAt r.sweep.count r.sweep.bytes.now 0 first → ReadAt r.sweep.count r.sweep.bytes.now i reading → i < r.sweep.count
+        → first.luminance.0 ≤ reading.luminance.0
+    in_order i f g l =
+        rw (luminance_at r.sweep.count r.sweep.bytes.now 0 (omega arith) f 0, luminance_at r.sweep.count r.sweep.bytes.now i l g 0, luminances_are) (display.sweep.keep.keeps 0 i (omega arith) (rw (← luminances_are, fields_length) l))
+
     -- by the first and the last reading
     module _ {first last : Luminance} {n : ℕ} (en : n ≡ r.sweep.count) (f : first.0 ≡ get_or (luminances_of r.sweep) 0 0) (l : last.0 ≡ get_or (luminances_of r.sweep) (n - 1) 0) where
       first_is : first.0 ≡ get_or (luminances_in (sections s)) 0 0
@@ -84,9 +92,6 @@ module _ {s : List ℕ} {r : JobRecord} (h : ReadFrom s (Ok r)) where
 
       last_is : last.0 ≡ get_or (luminances_in (sections s)) (length (luminances_in (sections s)) - 1) 0
       last_is = rw (← luminances_are, fields_length) (l ∙ ap (λ (k : ℕ). get_or (luminances_of r.sweep) (k - 1) 0) en)
-
-      pub in_order : first.0 ≤ last.0
-      in_order = rw (first_is, last_is) (climbs display).order
 
       -- by the light that is worked out from the job, and what tests 8, 9 and 10 find
       module _ {light : Light} (k : light ≡ light_of job) {x : Result IndexRange Refusal} (t : x ≡ range_tests (light.added.0 + first.0) (light.added.0 + last.0)) where

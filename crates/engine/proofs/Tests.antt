@@ -11,6 +11,7 @@ use Rattle.gsdf.specs.Ends.{below_table, above_table}
 use Rattle.gsdf.proofs.Ends.{not_below, not_above}
 use Rattle.target.specs.Target.{range_of, too_narrow}
 use Rattle.target.specs.declared.IndexRange.{IndexRange}
+use Rattle.target.proofs.Ranges.{Clear}
 use Rattle.engine.specs.Sound.{range_tests}
 
 module _ (black white : ℕ) (x : Bool) (ex : x ≡ below_table black) where
@@ -38,3 +39,8 @@ module _ (black white : ℕ) (x : Bool) (ex : x ≡ below_table black) where
         pub all_passed : z ≡ false → Ok indices ≡ range_tests black white
         unfolding range_tests
         all_passed n = simp (sym ex ∙ a, sym ey ∙ b, sym (ez ∙ ap (λ (i : IndexRange). too_narrow i.range.0) ei) ∙ n) (ap Ok ei)
+
+-- what is clear passes them, so a clearly wide display does
+pub clear_passes : (black white : ℕ) → Clear black white → range_tests black white ≡ Ok (range_of black white)
+unfolding range_tests
+clear_passes black white h = simp (h.from_first, h.to_last, h.wide)

@@ -2,7 +2,6 @@
 #![tactic(auto)]
 
 ghost use Rattle.std.specs.Prelude.{◌≡◌, ◌+◌, ◌≤◌, ℕ, List, MatchResult};
-ghost use Rattle.record.specs.Reader.{values};
 ghost use Rattle.engine.specs.Sound.{range_tests, soundness};
 ghost use Rattle.engine.specs.Drawing.{light_of, PassedTests, SomeRecord, Drawn};
 ghost use Rattle.engine.specs.Nearest.{NearestPromise};
@@ -12,7 +11,7 @@ ghost use Rattle.engine.specs.Check.{CheckPromise};
 use contrast::Verdict;
 use curve::RoomMark;
 use even::Problem;
-use record::{Items, Job, JobRecord, Refusal};
+use record::{Job, JobRecord, Refusal};
 use target::IndexRange;
 use units::{Luminance, PValue};
 
@@ -102,7 +101,7 @@ impl TestedJob<'_> {
         let top = record::max_ddl(self.job.settings.depth);
         curve::fill_curve(&self.found.sweep, top, self.light.added, curve);
         self.indices.fill_targets(PValue(255), targets);
-        top.0 as usize + 1
+        usize::from(top.0) + 1
     }
 }
 
@@ -158,18 +157,6 @@ pub fn even_table(bytes: &[u8], table: &mut [u16], work: &mut [u32]) -> Result<E
     Ok(EvenFigures { worst })
 }
 
-// The readings of a check's 18 patches, in an array, since `contrast::check` takes readings from anywhere.
-fn readings_of(check: &Items<'_, u32>) -> [u32; 18]
-    requires { check.now.count ≡ 18 }
-    ensures { result ≡ values check.now }
-{
-    let mut readings = [0u32; 18];
-    for (i, reading) in readings.iter_mut().enumerate() {
-        *reading = check.get(i);
-    }
-    readings
-}
-
 // The contrast check of a record, if it has one; its deviations go into the front of a lent slice.
 pub fn contrast_check(bytes: &[u8], deviations: &mut [i32]) -> Result<Option<Verdict>, Refusal>
     ensures { CheckPromise bytes.now deviations.old deviations.new result }
@@ -182,7 +169,9 @@ pub fn contrast_check(bytes: &[u8], deviations: &mut [i32]) -> Result<Option<Ver
     if patches == 0 {
         return Ok(None);
     }
-    let readings = readings_of(&tested.found.check);
+    // In an array, since `contrast::check` takes readings from anywhere.
+    let mut readings = [0u32; 18];
+    tested.found.check.fill(&mut readings);
     let limit = tested.job.settings.class.into();
     let verdict = contrast::check(&readings, tested.light.added, limit, deviations)?;
     Ok(Some(verdict))

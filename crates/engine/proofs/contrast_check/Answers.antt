@@ -1,3 +1,4 @@
+use mathlib.Core.Path.{refl}
 use native.Mathlib.Omega.{arith}
 use Rattle.std.proofs.lemmas.Result.{err_from_is_err_and}
 use Rattle.engine.proofs.Check.{check_short, check_back, check_none, all_read, check_made}
@@ -14,13 +15,13 @@ returns-in_err-tested c =
 pub returns-then-patches-eq0 : goal.returns-then-patches-eq0
 returns-then-patches-eq0 c = check_none _ _ (omega arith) c.in_ok-tested.ensures (omega arith)
 
-pub readings_of-readings-requires : goal.readings_of-readings-requires
-readings_of-readings-requires c = all_read c.in_ok-tested.ensures (omega arith)
+pub fill-requires : goal.fill-requires
+fill-requires c = omega (arith, all_read c.in_ok-tested.ensures (omega arith))
 
 pub returns-in_err-verdict : goal.returns-in_err-verdict
 returns-in_err-verdict c =
     let p = err_from_is_err_and c.from_residual-in_err-verdict.result c.from_residual-in_err-verdict.ensures.1 in
-    rw (p.1, p.2) (check_made _ _ (omega arith) c.in_ok-tested.ensures (omega arith) c.readings_of-readings.ensures c.into-limit.ensures c.check.ensures (rw c.in_err-verdict.was))
+    rw (p.1, p.2) (check_made _ _ (omega arith) c.in_ok-tested.ensures _ (omega arith) refl c.fill.ensures c.into-limit.ensures c.check.ensures (rw c.in_err-verdict.was))
 
 pub returns : goal.returns
-returns c = check_made _ _ (omega arith) c.in_ok-tested.ensures (omega arith) c.readings_of-readings.ensures c.into-limit.ensures c.check.ensures (rw c.in_ok-verdict.was)
+returns c = check_made _ _ (omega arith) c.in_ok-tested.ensures _ (omega arith) refl c.fill.ensures c.into-limit.ensures c.check.ensures (rw c.in_ok-verdict.was)

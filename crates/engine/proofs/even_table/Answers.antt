@@ -1,6 +1,7 @@
 use mathlib.Core.Path.{sym, ◌∙◌}
+use native.Mathlib.Omega.{arith}
 use Rattle.std.proofs.lemmas.Result.{err_from_is_err_and}
-use Rattle.engine.proofs.Even.{outcome_refused, outcome_made, too_little_lem, even_back, curve_workable, has_room, even_filled}
+use Rattle.engine.proofs.Even.{outcome_refused, outcome_made, too_little_lem, even_back, error_high, curve_workable, has_room, even_filled}
 use borrow.Author.Rules.{rules}
 use Rattle.engine.proofs.even_table.Goals as goal
 
@@ -13,10 +14,12 @@ returns-in_err-tested c =
     rw (p.1, p.2) (even_back _ _ _ (sym c.is_too_little.ensures ∙ c.if-is_too_little.false) _ c.in_err-tested.ensures)
 
 pub invariant_of-problem : goal.invariant_of-problem
-invariant_of-problem c = record { workable = curve_workable (c.draw-levels.ensures _ c.in_ok-tested.ensures) }
+invariant_of-problem c =
+    let drawn = c.draw-levels.ensures _ c.in_ok-tested.ensures in
+    record { workable = curve_workable drawn _ (omega (arith, error_high drawn)) }
 
 pub fill_table-requires : goal.fill_table-requires
-fill_table-requires c = has_room _ _ _ (sym c.is_too_little.ensures ∙ c.if-is_too_little.false) (c.draw-levels.ensures _ c.in_ok-tested.ensures) _ _ (search rules) (search rules)
+fill_table-requires c = has_room _ _ _ (sym c.is_too_little.ensures ∙ c.if-is_too_little.false) (c.draw-levels.ensures _ c.in_ok-tested.ensures) _ _ _ (search rules) (search rules)
 
 pub returns-in_err-worst : goal.returns-in_err-worst
 returns-in_err-worst c =

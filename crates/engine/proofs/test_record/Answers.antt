@@ -16,11 +16,7 @@ returns-in_err-job c =
     rw (p.1, p.2) (unfit c.in_ok-found.ensures _ c.in_err-job.was)
 
 pub test_range-requires : goal.test_range-requires
-test_range-requires c =
-    let some = c.in_ok-found.found.some in
-    let first = luminance_at _ _ 0 (omega (arith, some)) c.get-first.ensures 0 in
-    let last = luminance_at _ _ (c.len.result - 1) (omega (arith, some, c.len.ensures)) c.get-last.ensures 0 in
-    in_order c.in_ok-found.ensures _ c.in_ok-job.was c.len.ensures first last
+test_range-requires c = in_order c.in_ok-found.ensures _ c.in_ok-job.was _ c.get-first.ensures c.get-last.ensures (omega (arith, c.in_ok-found.found.some, c.len.ensures))
 
 pub returns-in_err-indices : goal.returns-in_err-indices
 returns-in_err-indices c =

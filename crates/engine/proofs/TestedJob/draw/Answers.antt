@@ -13,4 +13,4 @@ pub fill_targets-requires : goal.fill_targets-requires
 fill_targets-requires c = (job_aims c.requires.1, omega arith)
 
 pub returns : goal.returns
-returns c = λ bytes p. job_drawn p _ c.max_ddl-top.ensures _ c.args.targets.now c.fill_curve.ensures c.fill_targets.ensures c.told-targets
+returns c = λ bytes p. rw c.from.ensures (job_drawn p _ c.max_ddl-top.ensures _ c.args.targets.now c.fill_curve.ensures c.fill_targets.ensures c.told-targets)
