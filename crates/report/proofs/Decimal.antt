@@ -10,8 +10,6 @@ use native.Mathlib.Nat.{not-suc-le-zero}
 use native.Mathlib.Omega.{arith}
 use borrow.Author.Tests.{lt-ltb, le-ltb}
 use Rattle.laws.proofs.Cases.{le_or_lt}
-use Rattle.std.specs.Prelude.{Option, Some, None, IfSome, IfNone}
-use Rattle.std.specs.Option.{unwrap_or}
 use Rattle.std.specs.Fmt.{decimal as printed}
 use Rattle.std.proofs.lemmas.Fmt.{AppendsLastDigit, decimal_from_appends, length-decimal-le_succ}
 use Rattle.report.specs.Text.{digit, digits_within, decimal, number_of, Digits, Decimal}
@@ -50,30 +48,6 @@ decimal_some n =
     (λ p. rw (decimal_more n p, length-append) (omega arith))
     (λ p. rw (decimal_one n p) (omega arith))
     (le_or_lt 10 n)
-
-ten_power : (k : ℕ) → 0 < 10 ^ k
-ten_power zero = omega arith
-ten_power (suc k) = omega (arith, ten_power k)
-
--- as many as the power of ten that the number reaches has
-pub decimal_reaches : (k n : ℕ) → 10 ^ k ≤ n → k < length (decimal n)
-decimal_reaches zero n h = decimal_some n
-decimal_reaches (suc k) n h =
-    let more : 10 ≤ n = omega (arith, ten_power k, h) in
-    rw (decimal_more n more, length-append) (omega (arith, decimal_reaches k (n / 10) (omega (arith, h))))
-
-decimal_length : (k n : ℕ) → 10 ^ k ≤ n → n < 10 * 10 ^ k → k + 1 ≡ length (decimal n)
-decimal_length k n h l = omega (arith, decimal_reaches k n h, decimal_fits k n (grind (arith, l)))
-
-zero_length : 1 ≡ length (decimal 0)
-unfolding decimal digits_within
-zero_length = refl
-
--- as many as its logarithm says, with 0 for that of 0
-pub decimal_counted : (power : Option ℕ) (n : ℕ) → IfNone power (n ≡ 0) → IfSome power (λ k. 10 ^ k ≤ n) → IfSome power (λ k. n < 10 * 10 ^ k)
-    → unwrap_or power 0 + 1 ≡ length (decimal n)
-decimal_counted None n none h l = rw none zero_length
-decimal_counted (Some k) n none h l = decimal_length k n h l
 
 -- what the library prints of a number
 appends : AppendsLastDigit digits_within

@@ -1,13 +1,11 @@
 -- Pieces of text put one after another.
 -- Assumes nothing.
 use Prim.Native.Nat.{ℕ, zero, suc, ◌+◌, ◌-◌, ◌*◌, ◌^◌, ◌≤◌, ◌<◌}
-use mathlib.Core.Path.{◌≡◌, ap}
+use mathlib.Core.Path.{◌≡◌}
 use mathlib.Core.List.{List, [], ◌∷◌, ◌++◌, append_assoc}
 use Rattle.std.specs.Prelude.{Option, Some, None}
 use lib.ListN.{length, take, drop, set, get_or, length-append, length-take}
-use lib.Seq.{take-add, take-append-le, take_all, take-suc-set}
 use native.Mathlib.Nat.{le_refl}
-use native.Mathlib.Numerals.{add-one}
 use native.Mathlib.Omega.{arith}
 use Rattle.curve.specs.declared.RoomMark.{RoomMark}
 use Rattle.curve.specs.declared.RoomMark.TheVariants.{Low, High}
@@ -17,17 +15,6 @@ use Rattle.engine.specs.declared.NearestFigures.{NearestFigures}
 use Rattle.report.specs.Report.{room_line, check_line, row, rows, lines_of}
 use Rattle.report.proofs.Decimal.{decimal_fits}
 use Rattle.report.specs.Putting.{HasRoom}
-
--- behind the first bytes of a buffer stand digits, and then another byte
-pub digits_behind : (size x : ℕ) (digits old new rest : List ℕ) → take size new ≡ take size old → drop size new ≡ digits ++ rest → size + length digits < length new
-    → take (size + length digits + 1) (set new (size + length digits) x) ≡ take size old ++ (digits ++ (x ∷ []))
-digits_behind size x digits old new rest front behind h =
-    rw (add-one, take-suc-set new (size + length digits) x h, take-add size (length digits) new, front, behind, take-append-le (length digits) digits rest (le_refl _), take_all (length digits) digits (le_refl _))
-    (append_assoc (take size old) digits (x ∷ []))
-
--- there is room behind them
-pub room_behind : (size x : ℕ) (digits text held : List ℕ) → take size text ≡ held → size ≤ 4694 → length text ≡ 4694 → HasRoom held (digits ++ (x ∷ [])) → size + length digits < 4694
-room_behind size x digits text held e within whole room = omega (arith, ap length e, length-take size text, length-append digits (x ∷ []), room)
 
 -- each row has room where all have it
 rows_grow : (nearest even : List ℕ) (p more : ℕ) → length (rows nearest even p) ≤ length (rows nearest even (more + p))

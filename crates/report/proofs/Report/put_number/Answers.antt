@@ -1,32 +1,23 @@
--- The digits are written behind the text. Assumes nothing.
-use mathlib.Core.Path.{◌≡◌, ap}
-use lib.ListN.{length}
+-- What the library prints of a number is its digits. Assumes nothing.
+use mathlib.Core.Path.{◌≡◌, ◌∙◌}
+use mathlib.Core.List.{append_assoc}
+use lib.ListN.{length-append}
 use native.Mathlib.Omega.{arith}
 use Rattle.report.specs.Text.{decimal}
 use Rattle.report.proofs.Decimal.{printed_decimal}
-use Rattle.report.proofs.Putting.{digits_behind, room_behind}
 use Rattle.report.proofs.Report.put_number.Goals as goal
 
-pub write_digits-requires : goal.write_digits-requires
-write_digits-requires c =
-    let printed = printed_decimal c.args.n (omega (arith, c.ranges.n.fits)) in
-    let room = room_behind c.self.inside.size c.args.after (decimal c.args.n) c.self.inside.text _ c.self.view_is c.self.invariant c.self.told c.requires in
-    (omega (arith, ap length printed, c.digits_of.ensures), omega (arith, room, c.digits_of.ensures, c.self.told))
+pub put_text-requires : goal.put_text-requires
+put_text-requires c =
+    let digits : c.format.result.now ≡ decimal c.args.n = c.format.ensures.text ∙ printed_decimal c.args.n (omega (arith, c.ranges.n.fits)) in
+    rw digits (omega (arith, simp length-append at c.requires))
+
+pub put_text-requires-2 : goal.put_text-requires-2
+put_text-requires-2 c =
+    let digits : c.format.result.now ≡ decimal c.args.n = c.format.ensures.text ∙ printed_decimal c.args.n (omega (arith, c.ranges.n.fits)) in
+    rw (c.put_text.ensures, digits) (simp length-append (omega (arith, simp length-append at c.requires)))
 
 pub returns : goal.returns
 returns c =
-    let n = c.args.n in
-    let size = c.self.inside.size in
-    let printed = printed_decimal n (omega (arith, c.ranges.n.fits)) in
-    let from : c.write_digits.result ≡ size = omega (arith, ap length printed, c.write_digits.ensures.start, c.digits_of.ensures) in
-    rw (c.digits_of.ensures, ← c.self.view_is)
-    (digits_behind
-    size
-    c.args.after
-    (decimal n)
-    c.self.inside.text
-    c.write_digits.new.buf
-    _
-    (rw from at c.write_digits.ensures.before)
-    (rw (from, printed) at c.write_digits.ensures.written)
-    (omega (arith, room_behind size c.args.after (decimal n) c.self.inside.text _ c.self.view_is c.self.invariant c.self.told c.requires, c.write_digits.auto.buf)))
+    let digits : c.format.result.now ≡ decimal c.args.n = c.format.ensures.text ∙ printed_decimal c.args.n (omega (arith, c.ranges.n.fits)) in
+    rw (c.put_text-2.ensures, c.put_text.ensures, digits) (append_assoc c.args.self.now (decimal c.args.n) c.args.after.now)

@@ -2,7 +2,7 @@
 use Rattle.std.proofs.lemmas.Result.{err_from_is_err_and}
 use Rattle.report.specs.Report.{entries}
 use Rattle.report.proofs.Reporting.{nearest_refuses, even_refuses, check_refuses, all_made, kept}
-use Rattle.report.proofs.Report.put_job.Goals as goal
+use Rattle.report.proofs.Calibration.new.Goals as goal
 
 pub returns-in_err-figures-clause-refusal : goal.returns-in_err-figures-clause-refusal
 returns-in_err-figures-clause-refusal c =
@@ -22,7 +22,7 @@ returns-in_err-check-clause-refusal c =
 pub returns-clause-lines : goal.returns-clause-lines
 unfolding entries
 returns-clause-lines c =
-    rw c.put_lines.ensures (all_made _ _ c.in_ok-figures.ensures.answers c.in_ok-made.ensures.answers c.in_ok-check.ensures.answers c.in_ok-figures.ensures.table c.in_ok-made.ensures.table)
+    all_made _ _ c.in_ok-figures.ensures.answers c.in_ok-made.ensures.answers c.in_ok-check.ensures.answers c.in_ok-figures.ensures.table c.in_ok-made.ensures.table
 
 pub returns-in_err-check-clause-words_kept : goal.returns-in_err-check-clause-words_kept
 unfolding entries

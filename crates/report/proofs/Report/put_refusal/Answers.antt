@@ -1,8 +1,0 @@
--- The number has ten digits at most. Assumes nothing.
-use lib.ListN.{length-append}
-use native.Mathlib.Omega.{arith}
-use Rattle.report.proofs.Decimal.{decimal_fits}
-use Rattle.report.proofs.Report.put_refusal.Goals as goal
-
-pub put_number-requires : goal.put_number-requires
-put_number-requires c = rw (c.put_text.ensures, c.requires) (simp length-append (omega (arith, decimal_fits 9 c.from.result (omega arith))))
