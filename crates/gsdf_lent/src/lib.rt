@@ -1,6 +1,6 @@
 // The display function for a caller that lends Table B-1, through the C ABI on bare numbers: for the comparison by running and for the benchmark.
 // What is lent is the table that `gsdf` reads in place, so that the entries are not read from there.
-// Twins of the functions of `gsdf_values`: exported C names that stay, each with its own way to take the table.
+// Twins of the functions of `gsdf_values`: exported C names that stay. These take a table, which they do not read.
 #![tactic(auto)]
 
 ghost use Rattle.std.specs.Prelude.{◌≡◌};

@@ -1,4 +1,4 @@
-// Table B-1 and the display function by value, through the C ABI on bare numbers: for the comparison by running.
+// Table B-1 and the display function by value, through the C ABI on bare numbers: for the comparison by running. Exported C names that stay.
 #![tactic(auto)]
 
 ghost use Rattle.std.specs.Prelude.{◌≡◌};

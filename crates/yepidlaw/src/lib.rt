@@ -27,6 +27,7 @@ pub struct NearestResult {
     pub error: u32,
 }
 
+// C has no Result: an answer goes into a struct of its own, whose fields the header names, and so each has a From of its own.
 impl From<Result<NearestFigures, Refusal>> for NearestResult {
     ghost from_gives = { λ answer result. result ≡ nearest_result_of answer };
 
