@@ -73,6 +73,7 @@ fn calibrate<R: Read, W: Write>(input: &mut R, output: &mut W) -> Ending
 {
     let mut front = Front::new();
     let reading = front.read(input);
+    // No heap.
     let mut work = [0; 8192];
     let report = report::report_on(front.bytes(), &mut work);
     let writing = output.write_all(report.text());

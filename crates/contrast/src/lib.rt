@@ -38,7 +38,7 @@ impl From<Class> for Limit {
 }
 
 impl Limit {
-    // The n of one part in n.
+    // The n of one part in n. A discriminant with a cast would say no more, and not what the number is.
     fn parts(self) -> u64
         ensures { result ≡ limit_parts self }
     {

@@ -139,7 +139,7 @@ pub trait Sweep {
         ensures luminance { result.luminance.0 ≡ get_or (luminances self.now) i 0 };
 }
 
-// Drive levels, and the luminance of each.
+// Drive levels, and the luminance of each: two slices, for callers in Rust that have such. The operations give a record's sweep.
 #[derive(Clone, Copy)]
 pub struct Readings<'a> {
     pub ddls: &'a [u16],

@@ -53,7 +53,7 @@ fn light_of(job: Job) -> Light
     Light { room, added }
 }
 
-// Tests 8, 9 and 10, by the first and the last reading and the light added to them.
+// Tests 8, 9 and 10, by the first and the last reading and the light added to them: a struct of these would be made to be taken apart here.
 fn test_range(added: Luminance, first: Luminance, last: Luminance) -> Result<IndexRange, Refusal>
     requires { first.0 ≤ last.0 }
     ensures { result ≡ range_tests (added.0 + first.0) (added.0 + last.0) }

@@ -43,6 +43,7 @@ struct Band {
     bright: Luminance,
 }
 
+// The bound of a target, here and below, is no type: a Luminance elsewhere may be larger, and one of its own would be made and unmade at each place.
 fn band_of(tolerance: u16, target: Luminance) -> Band
     requires { (tolerance ≤ 1000) × (target.0 < 2 ^ 26) }
     ensures { (result.dark.0 ≡ darkest tolerance target.0) × (result.bright.0 ≡ brightest tolerance target.0 + 1) }
@@ -225,7 +226,8 @@ impl Found<'_> {
         low
     }
 
-    // Writes the table: at each P-value the lowest level that is lit and whose step from the level before fits.
+    // Writes the table: at each P-value the lowest level that is lit and whose step from the level before fits. `work` is only read here, and written by
+    // what fills it: no struct holds both.
     fn write_table(&self, k: u64, work: &[u32], table: &mut [u16])
         requires { WriteAsks (given_of self.now.problem) k work.now table.old }
         ensures { table.new ≡ lowest_within (given_of self.now.problem) k ++ drop (length self.now.problem.targets.now) table.old }

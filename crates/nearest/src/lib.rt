@@ -43,7 +43,7 @@ impl<'a> Place<'a> {
         }
     }
 
-    // The place of a target, from one that is not past it.
+    // The place of a target, from one that is not past it. By place: the walk begins there, and the place is the answer.
     fn advance(self, target: Luminance) -> Place<'a>
         requires { NotPast self.curve.now target.0 self }
         ensures { (result.curve.now ≡ self.entry.curve.now) × PlaceOf self.entry.curve.now target.0 result }

@@ -120,7 +120,7 @@ impl<'a, F: Field> Items<'a, F> {
         F::read(&self.bytes[i * F::WIDTH..])
     }
 
-    // All items, to the front of an array.
+    // All items, to the front of an array. By place: nothing is known of what a zip with iter_mut wrote.
     pub fn fill(&self, array: &mut [F])
         requires { self.now.count ≤ length array.old }
         ensures { array.new ≡ fields F.WIDTH F.value self.now.count self.now.bytes.now ++ drop self.now.count array.old }

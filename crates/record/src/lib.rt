@@ -46,7 +46,7 @@ pub enum Meter {
     Telescopic = 1,
 }
 
-// Written out for each: an impl by a macro of the repository's own is refused.
+// Written out for each, as TryFrom is: an impl by a macro of the repository's own is refused.
 impl From<Meter> for u16 {
     ghost from_gives = { λ m n. n ≡ meter_number m };
 
@@ -259,7 +259,7 @@ impl Items<'_, Reading> {
         }
     }
 
-    // Whether each level is above the one before it, where those before place `from` are known to be.
+    // Whether each level is above the one before it, where those before place `from` are known to be. By place: the walk begins there.
     fn rise_from(&self, from: usize) -> bool
         requires { LevelsRise (ddls_of self.now) from }
         ensures { result ≡ rises_by 1 (ddls_of self.now) }

@@ -29,7 +29,7 @@ pub fn index_range(black: Luminance, white: Luminance) -> IndexRange
 
 // True only where tests 8, 9 and 10 pass, told by T(1), T(200), T(300) and T(1023) alone, as it can be of most displays; false says nothing.
 // Takes the first and the last reading, and the light added to them; a sum may need more than 32 bits. No operation calls it: it stands for callers in
-// Rust.
+// Rust. Three arguments: a struct of them would be made to be taken apart in the call.
 pub fn is_clearly_wide(added: Luminance, first: Luminance, last: Luminance) -> bool
     ensures { result ≡ clearly_wide (added.0 + first.0) (added.0 + last.0) }
 {
@@ -42,7 +42,7 @@ pub fn is_clearly_wide(added: Luminance, first: Luminance, last: Luminance) -> b
 }
 
 impl IndexRange {
-    // Test 10.
+    // Test 10. The other fields may be any.
     pub fn is_too_narrow(self) -> bool
         ensures { result ≡ too_narrow self.range.0 }
     {
@@ -59,7 +59,7 @@ impl IndexRange {
         gsdf::luminance_of(JndIndex(index))
     }
 
-    // The targets of all P-values from 0 to top, into the front of a slice.
+    // The targets of all P-values from 0 to top, into the front of a slice. `high` may be any.
     pub fn fill_targets(self, top: PValue, targets: &mut [u32])
         requires { Aims self.low.0 self.range.0 top.0 × (top.0 < length targets.old) }
         ensures { targets.new ≡ targets_of self.low.0 self.range.0 top.0 ++ drop (top.0 + 1) targets.old }

@@ -100,7 +100,7 @@ pub struct CheckResult {
     pub verdict: u32,
 }
 
-// No From: Option and u32 are both std's.
+// No From: Option and u32 are both std's, and one of the verdict alone would leave this match for none.
 fn verdict_number(verdict: Option<Verdict>) -> u32
     ensures { result ≡ verdict_number verdict }
 {
