@@ -8,7 +8,8 @@ use lib.IntN.{pos, nat_abs, ◌-ℤ◌, ◌*ℤ◌}
 use mir.Syntax.{w32, w64}
 use mir.Val.{SFits}
 use Rattle.laws.specs.Numbers.{distance}
-use Rattle.laws.proofs.Signed.{signed_fits, abs_minus, abs_minus_le, abs_times}
+use Rattle.laws.proofs.Signed.{abs_minus, abs_minus_le}
+use Rattle.std.proofs.lemmas.Int.{fits_signed_from_abs, unsigned_abs-mul}
 use Rattle.contrast.specs.Deviation.{shown_contrast, expected_contrast, excess, deviation_of}
 use Rattle.contrast.specs.Check.{Pair}
 use Rattle.contrast.proofs.Floor.{floor_fits}
@@ -20,7 +21,7 @@ product_top a b ha hb = mul-le-mul {n₂ = 39934040} {m₂ = 79868080} ha hb
 -- |X| = |s − p| × (h + c)
 pub shown_is : (p s c h : ℕ) → nat_abs (shown_contrast p s c h) ≡ distance s p * (h + c)
 unfolding shown_contrast
-shown_is p s c h = abs_times (pos s -ℤ pos p) (pos (h + c)) ∙ ap (λ (n : ℕ). n * (h + c)) (abs_minus s p)
+shown_is p s c h = unsigned_abs-mul (pos s -ℤ pos p) (pos (h + c)) ∙ ap (λ (n : ℕ). n * (h + c)) (abs_minus s p)
 
 pub shown_top : (p s c h : ℕ) → p ≤ 39934040 → s ≤ 39934040 → c ≤ 39934040 → h ≤ 39934040 → nat_abs (shown_contrast p s c h) ≤ 39934040 * 79868080
 shown_top p s c h hp hs hc hh = rw shown_is (product_top (distance s p) (h + c) (omega arith) (omega arith))
@@ -56,16 +57,16 @@ module _ {p s c h : ℕ} (st : Pair p s c h) where
 
   -- X − Y and 1,000 times that are numbers of 64 bits, and the deviation is one of 32
   pub excess_fits : SFits w64 (excess p s c h)
-  excess_fits = signed_fits w64 (excess p s c h) (omega (arith, excess_top))
+  excess_fits = fits_signed_from_abs w64 (excess p s c h) (omega (arith, excess_top))
 
   pub thousand_fits : SFits w64 (pos 1000 *ℤ excess p s c h)
-  thousand_fits = signed_fits w64 (pos 1000 *ℤ excess p s c h) (omega (arith, abs_times (pos 1000) (excess p s c h), excess_top))
+  thousand_fits = fits_signed_from_abs w64 (pos 1000 *ℤ excess p s c h) (omega (arith, unsigned_abs-mul (pos 1000) (excess p s c h), excess_top))
 
   pub per_mille_fits : SFits w32 (deviation_of p s c h)
   unfolding deviation_of
   per_mille_fits =
       floor_fits w32 (pos 1000 *ℤ excess p s c h) (expected_contrast p s c h) expected_pos
-      (omega (arith, abs_times (pos 1000) (excess p s c h), excess_by_expected, expected_pos))
+      (omega (arith, unsigned_abs-mul (pos 1000) (excess p s c h), excess_by_expected, expected_pos))
 
   pub per_mille_wide : SFits w64 (deviation_of p s c h)
   per_mille_wide = record { sfits = omega (arith, per_mille_fits.sfits) }

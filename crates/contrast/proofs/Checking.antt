@@ -28,7 +28,11 @@ module _ (v : ℕ → ℕ) {outside : Bool} (tested : outside ≡ some_outside v
   found_inside e = all_inside v (sym tested ∙ e)
 
   -- test 12 passed, and test 13 was asked of the indices of the first luminance and of the last
-  module _ (none : outside ≡ false) {indices : IndexRange} (is : indices ≡ range_of (v 0) (v 17)) {narrow : Bool} (asked : narrow ≡ too_narrow indices.range.0) where
+  module _ (none : outside ≡ false) {black white : ℕ} (first : black ≡ v 0) (last : white ≡ v 17) {indices : IndexRange} (made : indices ≡ range_of black white)
+      {narrow : Bool} (asked : narrow ≡ too_narrow indices.range.0) where
+    is : indices ≡ range_of (v 0) (v 17)
+    is = rw (first, last) at made
+
     tested_narrow : narrow ≡ check_too_narrow v
     tested_narrow = asked ∙ rw is (narrow_is v)
 

@@ -104,9 +104,6 @@ module _ {v : ℕ → ℕ} {indices : IndexRange} (s : Covers v indices) where
       rw (← expected_is i, ← expected_is (i + 1))
       (omega (arith, luminance_next indices.low.0 indices.range.0 17 588 aims_17.first aims_17.last aims_17.some (omega (arith, s.wide)) i h))
 
-  pub expected_high : (i : ℕ) → i ≤ 17 → expected v i ≤ 39934040
-  expected_high i h = rw (← expected_is i) (target_high indices.low.0 indices.range.0 17 aims_17.first aims_17.last aims_17.some i h)
-
   -- two patches are a pair with the targets of any number of steps into each of which 100 indices fit
   pub pair_of : (steps : ℕ) → 17 ≤ steps → steps ≤ 100 → (i : ℕ) → i < 17
       → Pair (v i) (v (i + 1)) (target_at indices.low.0 indices.range.0 steps i) (target_at indices.low.0 indices.range.0 steps (i + 1))

@@ -9,7 +9,8 @@ use lib.IntN.{ℤ, pos, nat_abs, ◌+ℤ◌, ◌-ℤ◌, ◌*ℤ◌}
 use mir.Syntax.{w32, w64}
 use mir.Val.{Fits, SFits, to_z, of_z}
 use mir.ValLaws.{to_z-of_z, to_z_pos}
-use Rattle.laws.proofs.Signed.{signed_fits, abs_minus, abs_minus_le, abs_times}
+use Rattle.laws.proofs.Signed.{abs_minus, abs_minus_le}
+use Rattle.std.proofs.lemmas.Int.{fits_signed_from_abs, unsigned_abs-mul}
 use Rattle.contrast.specs.Deviation.{floor_of, shown_contrast, expected_contrast, excess, deviation_of, keeps_limit}
 use Rattle.contrast.specs.Check.{limit_parts, Pair}
 use Rattle.contrast.specs.declared.Limit.{Limit}
@@ -27,16 +28,10 @@ luminance_back n h = to_z_pos w64 n (omega arith)
 
 module _ (a b : ℕ) (ha : a ≤ 39934040) (hb : b ≤ 39934040) where
   minus_fits : SFits w64 (pos a -ℤ pos b)
-  minus_fits = signed_fits w64 (pos a -ℤ pos b) (omega (arith, abs_minus a b))
-
-  pub difference_fits : SFits w64 (to_z w64 a -ℤ to_z w64 b)
-  difference_fits = rw (luminance_back a ha, luminance_back b hb) minus_fits
+  minus_fits = fits_signed_from_abs w64 (pos a -ℤ pos b) (omega (arith, abs_minus a b))
 
   difference_back : to_z w64 (of_z w64 (to_z w64 a -ℤ to_z w64 b)) ≡ pos a -ℤ pos b
   difference_back = rw (luminance_back a ha, luminance_back b hb) (to_z-of_z w64 (pos a -ℤ pos b) minus_fits)
-
-  pub sum_fits : SFits w64 (to_z w64 a +ℤ to_z w64 b)
-  sum_fits = rw (luminance_back a ha, luminance_back b hb) (record { sfits = omega arith })
 
   sum_back : to_z w64 (of_z w64 (to_z w64 a +ℤ to_z w64 b)) ≡ pos (a + b)
   sum_back = rw (luminance_back a ha, luminance_back b hb) (to_z_pos w64 (a + b) (omega arith))
@@ -51,10 +46,7 @@ module _ (p s c h : ℕ) (hp : p ≤ 39934040) (hs : s ≤ 39934040) (hc : c ≤
   shown_back = rw (difference_back s p hs hp, sum_back h c hh hc)
 
   shown_fits : SFits w64 (shown_contrast p s c h)
-  shown_fits = signed_fits w64 (shown_contrast p s c h) (omega (arith, shown_top p s c h hp hs hc hh))
-
-  pub shown_word_fits : SFits w64 (shown_word p s c h)
-  shown_word_fits = rw shown_back shown_fits
+  shown_fits = fits_signed_from_abs w64 (shown_contrast p s c h) (omega (arith, shown_top p s c h hp hs hc hh))
 
   read_back : to_z w64 (of_z w64 (shown_word p s c h)) ≡ shown_contrast p s c h
   read_back = rw shown_back (to_z-of_z w64 (shown_contrast p s c h) shown_fits)
@@ -62,7 +54,7 @@ module _ (p s c h : ℕ) (hp : p ≤ 39934040) (hs : s ≤ 39934040) (hc : c ≤
   pub excess_word_fits : (y : ℕ) → y ≤ 39934040 * 79868080 → SFits w64 (to_z w64 (of_z w64 (shown_word p s c h)) -ℤ to_z w64 y)
   excess_word_fits y hy =
       rw (read_back, to_z_pos w64 y (omega arith))
-      (signed_fits w64 (shown_contrast p s c h -ℤ pos y) (omega (arith, abs_minus_le (shown_contrast p s c h) (pos y), shown_top p s c h hp hs hc hh)))
+      (fits_signed_from_abs w64 (shown_contrast p s c h -ℤ pos y) (omega (arith, abs_minus_le (shown_contrast p s c h) (pos y), shown_top p s c h hp hs hc hh)))
 
 -- ---- of a pair
 
@@ -78,7 +70,7 @@ module _ {p s c h : ℕ} (st : Pair p s c h) where
     pub scaled_fits : (k : ℕ) → k ≤ 1000 → SFits w64 (pos k *ℤ to_z w64 (of_z w64 e))
     scaled_fits k hk =
         rw (e_is, to_z-of_z w64 _ (excess_fits st))
-        (signed_fits w64 (pos k *ℤ excess p s c h) (omega (arith, abs_times (pos k) (excess p s c h), mul-le-mul hk (excess_top st))))
+        (fits_signed_from_abs w64 (pos k *ℤ excess p s c h) (omega (arith, unsigned_abs-mul (pos k) (excess p s c h), mul-le-mul hk (excess_top st))))
 
     pub floor_is : {y : ℕ} {r : ℤ} → y ≡ expected_contrast p s c h → r ≡ floor_of (to_z w64 (of_z w64 (pos 1000 *ℤ to_z w64 (of_z w64 e)))) y → r ≡ deviation_of p s c h
     unfolding deviation_of

@@ -6,7 +6,7 @@ use Rattle.std.proofs.Math.Facts.{leb_yes, yes_leb, clash}
 use Rattle.std.proofs.Math.Nat.{eq-or-lt_of_le, not-suc-le-zero}
 use Rattle.laws.specs.Rises.{NeverFalls}
 use Rattle.laws.proofs.Cases.{le_or_lt}
-use Rattle.laws.proofs.Rises.{keeps_by_steps}
+use Rattle.laws.proofs.Rises.{keeps_by_steps, tab_keeps}
 use Rattle.laws.proofs.Search.{any_intro, lowest_passes, lowest_le, lowest_is}
 use Rattle.laws.proofs.Fill.{length_tab, get_or_tab}
 use Rattle.curve.specs.Curve.{pair_at, by_pair, curve_at, curve_of, Sweep}
@@ -147,8 +147,5 @@ module _ {ddls luminances : List ℕ} {top : ℕ} (s : Sweep ddls luminances top
     curve_level d x h = get_or_tab (curve_at added ddls luminances) (top + 1) d x (omega arith)
 
     pub curve_keeps : NeverFalls (curve_of added ddls luminances top)
-    curve_keeps = record {
-      keeps = λ i k ik l.
-          let kt : k ≤ top = omega (arith, curve_length) in
-          rw (curve_level i 0 (omega arith), curve_level k 0 kt) (curve_mono i k ik kt);
-    }
+    unfolding curve_of
+    curve_keeps = tab_keeps _ (top + 1) (λ i k ik l. curve_mono i k ik (omega arith))

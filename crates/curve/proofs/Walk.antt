@@ -2,7 +2,6 @@
 -- Assumes nothing.
 use Rattle.std.proofs.Common.{◌≡◌, refl, sym, ap, ◌∙◌, List, [], ◌∷◌, ◌++◌, ℕ, ◌+◌, ◌-◌, ◌≤◌, ◌<◌, arith, length, get_or, take, drop, set, length-drop, append-nil, length-set}
 use Rattle.std.proofs.Math.Seq.{drop-length, length-take-le}
-use Rattle.std.proofs.lemmas.List.{length-take}
 use Rattle.laws.specs.Fill.{tab}
 use Rattle.laws.proofs.Fill.{Filled, filled_none, filled_more, filled_part, tab_same}
 use Rattle.curve.specs.Curve.{interpolate, by_pair, curve_at, curve_of}
@@ -46,10 +45,6 @@ module _ {l1 l2 : ℕ} {before : List ℕ} {line : Line} where
 
 -- ---- from reading to reading
 
--- no more of a list are taken than asked for
-pub no_more : {n m : ℕ} (xs : List ℕ) → n < m → length (take n xs) < m
-no_more {n} xs h = rw (length-take n xs) (omega arith)
-
 -- the curve is filled below the reading at place i
 pub record Traced (added : ℕ) (ddls luminances before now : List ℕ) (i : ℕ) (last : Reading) : Type 0 where
   pub inside : i < length ddls
@@ -63,10 +58,6 @@ pub record Follows (last next : Reading) (top : ℕ) : Type 0 where
   pub keeps : last.luminance.0 ≤ next.luminance.0
 
 module _ {ddls luminances before : List ℕ} {top added : ℕ} (a : Drawable ddls luminances top added before) where
-  -- a reading fits with the light added, or with less
-  pub reading_fits : (i : ℕ) {light : ℕ} → light ≤ added → i < length ddls → light + get_or luminances i 0 < 4294967296
-  reading_fits i less h = omega (arith, a.wide, a.sweep.keep.keeps i (length ddls - 1) (omega arith) (omega (arith, a.sweep.pairs)))
-
   pub traced_none : {first : Reading} → LitReading ddls luminances added 0 first → Traced added ddls luminances before before 0 first
   traced_none {first} r = record {
     inside = omega (arith, a.sweep.some);

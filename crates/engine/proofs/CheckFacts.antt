@@ -30,7 +30,6 @@ use Rattle.engine.specs.Check.{check_of, check_answer, places_of, check_lent, Ch
 use Rattle.engine.specs.CheckFacts.{JudgedCheck, CheckSettled}
 use Rattle.engine.proofs.Conditions.{sent, went_on}
 use Rattle.engine.proofs.CheckTests.{outside_found, none_outside, is_narrow, wide_range}
-use Rattle.engine.proofs.Clashes.{pass_fail}
 
 -- ---- an outcome settles the answer and the places, so no two outcomes of one record and one slice differ
 
@@ -142,7 +141,7 @@ told (unmeasured l g z) = refl
 told (outside c i h t) = refl
 told (narrow w h) = refl
 told (passes w r k) = judged w r verdict.Pass refl (λ p. k) (λ p. refl)
-told (fails w r i h k) = judged w r verdict.Fail refl (λ p. absurd (pass_fail (sym p))) (λ p. clash k (p i h))
+told (fails w r i h k) = judged w r verdict.Fail refl (λ p. cc (sym p)) (λ p. clash k (p i h))
 
 module _ {bytes : List ℕ} {before after : List ℤ} where
   pub judged_check : {found : Verdict} → CheckPromise bytes before after (Ok (Some found)) → JudgedCheck bytes before after found

@@ -1,14 +1,15 @@
 -- Tests 12 and 13 as conditions on luminances and on a range.
 -- Assumes nothing.
-use mathlib.Core.Path.{◌≡◌, sym}
+use mathlib.Core.Path.{◌≡◌}
 use mathlib.Core.Bool.{true, false, ◌||◌}
 use mathlib.Core.Logic.{◌⊎◌, inl, inr, ⊎_elim}
 use Prim.Native.Nat.{ℕ, ◌≤◌, ◌<◌}
-use lib.Dec.{le→leb, leb→le}
-use lib.IntN.{ℤ, pos, negsuc}
+use lib.IntN.{ℤ, pos}
 use lib.Signed.{lt_z, ◌≤ℤ◌, ◌<ℤ◌}
 use mir.Facts.{or_yes, or_no, clash}
-use borrow.Author.Tests.{ltb-true, ltb-false, le-ltb, lt-ltb}
+use borrow.Author.Tests.{ltb-true, ltb-false, lt-ltb}
+use native.Mathlib.Omega.{arith}
+use Rattle.std.proofs.lemmas.Int.{ints}
 use Rattle.laws.proofs.Cases.{is_yes, is_no, yes_is, no_is, yes_or}
 use Rattle.laws.proofs.Search.{any_intro, any_none}
 use Rattle.gsdf.specs.DisplayFunction.{jnd_luminance}
@@ -29,12 +30,10 @@ not_past l e =
     (ltb-false _ _ (is_no _ b), ltb-false _ _ (is_no _ a))
 
 pub not_less : (z : ℤ) (k : ℕ) → lt_z z (pos k) ≡ false → pos k ≤ℤ z
-not_less (pos a) k e = record { le = le→leb k a (ltb-false a k e) }
-not_less (negsuc a) k e = absurd (yes_is (sym e))
+not_less z k e = grind (arith, ints)
 
 less_not : (z : ℤ) (k : ℕ) → pos k ≤ℤ z → lt_z z (pos k) ≡ false
-less_not (pos a) k h = le-ltb a k (leb→le k a h.le)
-less_not (negsuc a) k h = absurd h.le
+less_not z k h = grind (arith, ints)
 
 -- ---- and back
 

@@ -12,13 +12,12 @@ use Rattle.record.specs.declared.Refusal.{Refusal}
 use Rattle.record.specs.declared.Refusal.TheVariants.{LentTooShort, NoTable}
 use Rattle.even.specs.Even.{Given}
 use Rattle.even.specs.Table.{has_no_table}
-use Rattle.even.specs.Filled.{given, outcome_of, Workable, Room, EvenFilled}
+use Rattle.even.specs.Filled.{given, outcome_of, Workable, EvenFilled}
 use Rattle.engine.specs.declared.EvenFigures.{EvenFigures}
 use Rattle.engine.specs.Sound.{soundness}
 use Rattle.engine.specs.Even.{outcome_answer, too_little, even_answer, even_lent, Enough, EvenPromise}
 use Rattle.engine.specs.Drawing.{Drawn}
 use Rattle.engine.specs.declared.TestedJob.{TestedJob}
-use Rattle.engine.proofs.Clashes.{ok_err}
 use Rattle.engine.proofs.EvenTerms.{workable_within}
 use Rattle.engine.proofs.EvenOutcomes.{lent_enough, promised}
 use Rattle.engine.proofs.Soundness.{sound_job}
@@ -34,7 +33,7 @@ outcome_made outcome e f = rw (sym e ∙ f)
 words_kept : (x : Given) {before after words words_after : List ℕ} {outcome : Option ℕ} → EvenFilled x before after words words_after outcome
     → (r : Refusal) → outcome_answer outcome ≡ Err r → words_after ≡ words
 unfolding outcome_of
-words_kept x h r e = by (has_no_table x) h.words_without_table (λ f. absurd (ok_err (simp (h.answers, f) at e)))
+words_kept x h r e = by (has_no_table x) h.words_without_table (λ f. cc (simp (h.answers, f) at e))
 
 module _ {bytes curve targets : List ℕ} {tested : TestedJob} {levels : ℕ} (d : Drawn bytes tested levels curve targets) where
   pub error_high : tested.job.settings.tolerance ≤ 1000
@@ -64,17 +63,6 @@ module _ (bytes before words : List ℕ) where
         unchanged r (simp (long, e)) (simp (long, e))
 
     module _ {tested : TestedJob} {levels : ℕ} {curve targets : List ℕ} (d : Drawn bytes tested levels curve targets) where
-      pub has_room : (tolerance : ℕ) (starts ends : List ℕ) → length starts ≡ 256 → length ends ≡ 256
-          → Room (given (take levels curve) targets tolerance) starts ends before words
-      has_room tolerance starts ends n m =
-          let known = sound_job bytes _ d.is in
-          record {
-            starts_fit = omega (arith, known.values);
-            ends_fit = omega (arith, known.values);
-            entries_fit = omega (arith, known.values, enough.entries);
-            rows_fit = omega (arith, known.values, enough.words);
-          }
-
       pub even_filled : {after words_after : List ℕ} {outcome : Option ℕ} {answer : Result EvenFigures Refusal}
           → EvenFilled (given (take levels curve) targets tested.job.settings.tolerance) before after words words_after outcome → answer ≡ outcome_answer outcome
           → EvenPromise bytes before after words words_after answer

@@ -24,7 +24,6 @@ use Rattle.engine.specs.Conditions.{GoesOn, made_by, Standing, stands, returned}
 use Rattle.engine.specs.Even.{given_by, outcome_answer, even_of, too_little, even_answer, even_entries, even_lent, WithinError, worst_step, IsEvenTable, even_values, Enough, EvenOutcome, short, back, none, made, MadeFor, EvenPromise}
 use Rattle.engine.specs.declared.EvenFigures.{EvenFigures}
 use Rattle.engine.proofs.Conditions.{standing, went_on}
-use Rattle.engine.proofs.Clashes.{ok_err, same_ok}
 use Rattle.engine.proofs.EvenTerms.{workable, known, Spells, spells, in_terms, in_lists, worst_same, even_in_terms}
 
 -- ---- curve, targets and allowed error of a job
@@ -57,7 +56,7 @@ module _ {bytes : List ℕ} {job : Job} {x : lists.Given} (ok : Workable x) (s :
   -- the answer is "no table" exactly when the test passes
   none_told : outcome_answer (outcome_of x) ≡ Err NoTable → has_no_table x ≡ true
   unfolding outcome_of
-  none_told e = by (has_no_table x) (λ f. f) (λ f. absurd (ok_err (simp f at e)))
+  none_told e = by (has_no_table x) (λ f. f) (λ f. cc (simp f at e))
 
   none_answers : has_no_table x ≡ true → outcome_answer (outcome_of x) ≡ Err NoTable
   unfolding outcome_of
@@ -76,8 +75,8 @@ module _ {bytes : List ℕ} {job : Job} {x : lists.Given} (ok : Workable x) (s :
   unfolding outcome_of
   answered e =
       by (has_no_table x)
-      (λ f. absurd (ok_err (simp f at e)))
-      (λ f. record { some = f; figure = ap (λ (y : EvenFigures). y.worst) (same_ok (simp f at e)) })
+      (λ f. cc (simp f at e))
+      (λ f. record { some = f; figure = ap (λ (y : EvenFigures). y.worst) (cc (simp f at e)) })
 
   front : (before : List ℕ) → has_no_table x ≡ false → take 256 (even_over x before) ≡ even_table x
   unfolding even_over
@@ -128,7 +127,7 @@ module _ (bytes before words : List ℕ) where
   -- a table is made only where enough is lent
   made_enough : {figures : EvenFigures} → Ok figures ≡ even_answer bytes (length before) (length words) → Enough before words
   unfolding even_answer
-  made_enough e = by (too_little (length before) (length words)) (λ f. absurd (ok_err (simp f at e))) lent_enough
+  made_enough e = by (too_little (length before) (length words)) (λ f. cc (simp f at e)) lent_enough
 
   -- ---- the promise by its equations
 

@@ -1,6 +1,6 @@
 -- An accepted job and its sweep: the tests, and what a sound job makes.
 -- Assumes nothing.
-use mathlib.Core.Path.{◌≡◌, sym, ap, subst, ◌∙◌}
+use mathlib.Core.Path.{◌≡◌, sym, subst, ◌∙◌}
 use mathlib.Core.Logic.{⊎_elim}
 use mathlib.Core.List.{List}
 use Prim.Native.Nat.{ℕ, ◌+◌, ◌-◌, ◌≤◌}
@@ -10,11 +10,10 @@ use lib.ListN.{length, get_or}
 use borrow.Author.Tests.{ltb-false}
 use Rattle.std.specs.Prelude.{Ok, Err}
 use Rattle.laws.proofs.Cases.{by}
-use Rattle.units.specs.declared.Luminance.{Luminance}
 use Rattle.record.specs.Tests.{max_ddl}
 use Rattle.record.specs.declared.Refusal.{Refusal}
 use Rattle.record.specs.declared.Job.{Job}
-use Rattle.curve.specs.Room.{added_luminance, room_mark}
+use Rattle.curve.specs.Room.{room_mark}
 use Rattle.gsdf.specs.Ends.{below_table, above_table}
 use Rattle.curve.specs.Curve.{curve_at, curve_of, Sweep}
 use Rattle.curve.specs.Walk.{Drawable}
@@ -26,7 +25,6 @@ use Rattle.target.proofs.Ranges.{range_low, range_high, range_between}
 use Rattle.engine.specs.Sound.{SoundJob, room_of, added_of, top_of, range_tests, measured}
 use Rattle.engine.specs.Drawing.{light_of, sweep_tests}
 use Rattle.engine.specs.declared.Light.{Light}
-use Rattle.engine.proofs.Clashes.{ok_err}
 
 -- what holds at each of the three depths
 by_depth : (P : ℕ → Type 0) (b : ℕ) → 8 ≤ b → b ≤ 10 → P 8 → P 9 → P 10 → P b
@@ -53,11 +51,11 @@ pub passed : (black white : ℕ) (indices : IndexRange) → range_tests black wh
 unfolding range_tests
 passed black white indices e =
     by (below_table black)
-    (λ a. absurd (ok_err (sym (simp a at e))))
+    (λ a. cc (sym (simp a at e)))
     (λ a. by (above_table white)
-    (λ b. absurd (ok_err (sym (simp (a, b) at e))))
+    (λ b. cc (sym (simp (a, b) at e)))
     (λ b. by (too_narrow (range_of black white).range.0)
-    (λ n. absurd (ok_err (sym (simp (a, b, n) at e))))
+    (λ n. cc (sym (simp (a, b, n) at e)))
     (λ n.
     let f : Ok (range_of black white) ≡ Ok indices = simp (a, b, n) at e in
     let is : indices ≡ range_of black white = cc in
@@ -67,14 +65,6 @@ passed black white indices e =
       is = is;
       wide = rw is (ltb-false _ _ n);
     })))
-
--- ---- the light of a job
-
-pub light_is : (job : Job) (room added : Luminance) → room.0 ≡ room_of job → added.0 ≡ added_luminance job.settings.meter room.0
-    → record { room = room; added = added } ≡ light_of job
-light_is job room added er ea =
-    ap (λ (n : ℕ). record { room = record { 0 = n }; added = added }) er
-    ∙ ap (λ (n : ℕ). record { room = record { 0 = room_of job }; added = record { 0 = n } }) (ea ∙ ap (added_luminance job.settings.meter) er)
 
 -- ---- an accepted job and its sweep
 

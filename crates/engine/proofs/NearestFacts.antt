@@ -19,7 +19,6 @@ use Rattle.engine.specs.Nearest.{nearest_of, nearest_figures, nearest_entries, n
 use Rattle.engine.specs.NearestFacts.{MadeTable}
 use Rattle.engine.specs.declared.NearestFigures.{NearestFigures}
 use Rattle.engine.proofs.Soundness.{sound_job}
-use Rattle.engine.proofs.Clashes.{ok_err}
 use Rattle.engine.proofs.Nearest.{targets_keep}
 
 -- the entries after a table was made
@@ -84,11 +83,11 @@ module _ {bytes before after : List ℕ} where
       (λ (long : 256 ≤ length before).
       let a : Ok figures ≡ nearest_of (soundness bytes) = simp (le-ltb _ _ long) at h.answers in
       go long (soundness bytes) refl a (simp (le-ltb _ _ long) at h.table))
-      (λ (short : length before < 256). absurd (ok_err (simp (lt-ltb _ _ short) at h.answers)))
+      (λ (short : length before < 256). cc (simp (lt-ltb _ _ short) at h.answers))
       (le_or_lt 256 (length before))
     where
       go : 256 ≤ length before → (x : Result SoundJob Refusal) → soundness bytes ≡ x → Ok figures ≡ nearest_of x → after ≡ entries_over x before → MadeTable bytes before after figures
-      go long (Err r) e a t = absurd (ok_err a)
+      go long (Err r) e a t = cc a
       go long (Ok job) e a t = let f : figures ≡ nearest_figures job = cc in made_of before (sound_job bytes job e) t long e f
 
   -- a refusal changes no entry
@@ -103,4 +102,4 @@ module _ {bytes before after : List ℕ} where
     where
       go : (x : Result SoundJob Refusal) → Err r ≡ nearest_of x → after ≡ entries_over x before → after ≡ before
       go (Err q) a t = t
-      go (Ok job) a t = absurd (ok_err (sym a))
+      go (Ok job) a t = cc (sym a)

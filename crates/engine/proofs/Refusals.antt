@@ -35,7 +35,7 @@ use Rattle.engine.specs.CheckFacts.{CheckNumber}
 use Rattle.engine.proofs.Conditions.{sent}
 use Rattle.engine.proofs.EvenOutcomes.{some_even}
 use Rattle.engine.proofs.CheckOutcomes.{some_check}
-use Rattle.engine.proofs.Clashes.{ok_err, same_err}
+use Rattle.engine.proofs.Clashes.{same_err}
 
 numbered : (low high : ℕ) {q r : Refusal} → q ≡ r → T (leb low (refusal_number q) && leb (refusal_number q) high) → Numbered low high r
 numbered low high {q = q} e t =
@@ -62,7 +62,7 @@ count_number k s r e =
     (λ b. numbered 2 4 (same_err (simp (a, b) at e)) tt)
     (λ b. by (ltb (length s) (2 + word 0 s * width k))
     (λ c. numbered 2 4 (same_err (simp (a, b, c) at e)) tt)
-    (λ c. absurd (ok_err (simp (a, b, c) at e)))))
+    (λ c. cc (simp (a, b, c) at e))))
 
 layout_number : (s : List ℕ) (r : Refusal) → layout_of s ≡ Err r → Numbered 2 4 r
 unfolding layout_of
@@ -72,13 +72,13 @@ layout_number s r e =
     (λ b. after_number (count_of Sweep (rest Lamps b (rest Settings a s))) _ (count_number Sweep _)
     (λ c. after_number (count_of Check (rest Sweep c (rest Lamps b (rest Settings a s)))) _ (count_number Check _)
     (λ d f. by (eqb (length (rest Check d (rest Sweep c (rest Lamps b (rest Settings a s))))) 0)
-    (λ y. absurd (ok_err (simp y at f)))
+    (λ y. cc (simp y at f))
     (λ n. numbered 2 4 (same_err (simp n at f)) tt)))))
     e
 
 sections_number : (s : List ℕ) (r : Refusal) → sections s ≡ Err r → Numbered 2 4 r
 unfolding sections
-sections_number s r e = after_number (layout_of s) _ (layout_number s) (λ n f. absurd (ok_err f)) e
+sections_number s r e = after_number (layout_of s) _ (layout_number s) (λ n f. cc f) e
 
 judged_number : (settings lamps ddls luminances : List ℕ) (r : Refusal) → judged settings lamps ddls luminances ≡ Err r → Numbered 5 7 r
 unfolding judged
@@ -86,7 +86,7 @@ judged_number settings lamps ddls luminances r e =
     by (settings_in_range settings && lamps_in_range lamps)
     (λ a. by (spans (max_ddl (get_or settings 0 0)) ddls)
     (λ b. by (is_never_falling luminances)
-    (λ c. absurd (ok_err (simp (a, b, c) at e)))
+    (λ c. cc (simp (a, b, c) at e))
     (λ c. numbered 5 7 (same_err (simp (a, b, c) at e)) tt))
     (λ b. numbered 5 7 (same_err (simp (a, b) at e)) tt))
     (λ a. numbered 5 7 (same_err (simp a at e)) tt)
@@ -106,13 +106,13 @@ range_number black white r e =
     (λ b. numbered 8 10 (same_err (simp (a, b) at e)) tt)
     (λ b. by (too_narrow (range_of black white).range.0)
     (λ n. numbered 8 10 (same_err (simp (a, b, n) at e)) tt)
-    (λ n. absurd (ok_err (simp (a, b, n) at e)))))
+    (λ n. cc (simp (a, b, n) at e))))
 
 measured_number : (job : Job) (ddls luminances : List ℕ) (r : Refusal) → measured job ddls luminances ≡ Err r → Numbered 8 10 r
 unfolding measured
 measured_number job ddls luminances r e =
     let F = curve_at (added_of job) ddls luminances in
-    after_number (range_tests (F 0) (F (top_of job))) _ (range_number _ _) (λ indices f. absurd (ok_err f)) e
+    after_number (range_tests (F 0) (F (top_of job))) _ (range_number _ _) (λ indices f. cc f) e
 
 -- the part up to test 10 gives 2 to 10
 pub unsound_number : (bytes : List ℕ) (r : Refusal) → soundness bytes ≡ Err r → Numbered 2 10 r
@@ -127,7 +127,7 @@ unfolding nearest_answer
 nearest_number bytes lent r e =
     ⊎_elim
     (λ (long : 256 ≤ lent).
-    after_number (soundness bytes) _ (λ q t. wider (omega arith) (omega arith) (unsound_number bytes q t)) (λ job f. absurd (ok_err f)) (simp (le-ltb _ _ long) at e))
+    after_number (soundness bytes) _ (λ q t. wider (omega arith) (omega arith) (unsound_number bytes q t)) (λ job f. cc f) (simp (le-ltb _ _ long) at e))
     (λ (short : lent < 256). numbered 1 10 (same_err (simp (lt-ltb _ _ short) at e)) tt)
     (le_or_lt 256 lent)
 

@@ -22,7 +22,6 @@ use Rattle.engine.specs.Sound.{SoundJob, IsSound, added_of, top_of, measured, so
 use Rattle.engine.specs.Drawing.{sweep_tests}
 use Rattle.engine.proofs.Measuring.{Measurable, top_low, top_high, order, Passed, through, faulted, made_of, kept, aims}
 use Rattle.engine.proofs.Reading.{measurable}
-use Rattle.engine.proofs.Clashes.{ok_err, same_ok}
 
 module _ {job : Job} {ddls luminances : List ℕ} (m : Measurable job ddls luminances) (error : job.settings.tolerance ≤ 1000) where
   module _ (indices : IndexRange) (e : sweep_tests (added_of job) luminances ≡ Ok indices) where
@@ -76,9 +75,9 @@ module _ {job : Job} {ddls luminances : List ℕ} (m : Measurable job ddls lumin
   measured_sound made e = go (sweep_tests (added_of job) luminances) refl
     where
       go : (x : Result IndexRange Refusal) → sweep_tests (added_of job) luminances ≡ x → IsSound made
-      go (Err r) t = absurd (ok_err (sym e ∙ faulted m r t))
+      go (Err r) t = cc (sym e ∙ faulted m r t)
       go (Ok indices) t =
-          let same : made_of m indices t ≡ made = same_ok (sym (kept m indices t) ∙ e) in
+          let same : made_of m indices t ≡ made = cc (sym (kept m indices t) ∙ e) in
           subst IsSound same (made_sound indices t)
 
 -- the job of every record that is sound
@@ -87,5 +86,5 @@ unfolding soundness
 sound_job bytes job e = go (answer_of bytes) refl
   where
     go : (x : Result Job Refusal) → answer_of bytes ≡ x → IsSound job
-    go (Err r) t = absurd (ok_err (sym (rw t at e)))
+    go (Err r) t = cc (sym (rw t at e))
     go (Ok j) t = measured_sound (measurable (accepted_job bytes j t)) (accepted_job bytes j t).tolerance job (rw t at e)

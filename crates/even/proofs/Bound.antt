@@ -1,10 +1,10 @@
 -- One walk over the P-values: each has an allowed level so far, and the worst step of the lowest levels is known so far.
 -- Assumes nothing.
-use Prim.Native.Nat.{ℕ, suc, ◌+◌, ◌-◌, max, ◌≤◌, ◌<◌, zero-le}
+use Prim.Native.Nat.{ℕ, suc, ◌+◌, ◌-◌, max, ◌≤◌, ◌<◌}
 use mathlib.Core.Path.{◌≡◌, refl, sym, ap, ap₂, subst, ◌∙◌}
 use mathlib.Core.Logic.{⊎_elim}
 use mathlib.Core.Bool.{true, false}
-use native.Mathlib.Nat.{le_of_lt, le_refl, eq-or-lt_of_le}
+use native.Mathlib.Nat.{le_of_lt, eq-or-lt_of_le}
 use native.Mathlib.Numerals.{add-one}
 use native.Mathlib.Omega.{arith}
 use lib.Arith.{le-zero}
@@ -22,7 +22,7 @@ use Rattle.laws.proofs.Fill.{get_or_tab, Filled, filled_none, filled_more, fille
 use Rattle.reach.specs.declared.Run.{Run}
 use Rattle.even.specs.Even.{Given, F, t, step_deviation, deviation_at, worst_step, target_step}
 use Rattle.even.specs.Table.{allowed_at, no_level, has_no_table, lowest_levels}
-use Rattle.even.specs.Runs.{brightest, run_from, run_to, IsRun, NotAbove, RunFound}
+use Rattle.even.specs.Runs.{brightest, run_from, run_to, NotAbove, RunFound}
 use Rattle.even.specs.Filled.{Workable}
 use Rattle.even.specs.Filling.{RunsAsk, first_bound, RunsFound}
 use Rattle.even.proofs.Runs.{reaching_top, not_above, run_some, some_allowed, lowest_from}
@@ -33,32 +33,27 @@ no_table_is x e = rw e refl
 
 -- ---- what the bound tells
 
-table_none : {b : ℕ} → Some b ≡ None → ⊥
-table_none e = cc
-
-same_table : {b d : ℕ} → Some b ≡ Some d → b ≡ d
-same_table e = cc
-
 module _ (x : Given) where
   some_bound : has_no_table x ≡ false → first_bound x ≡ Some (worst_step x (lowest_levels x))
   unfolding first_bound
   some_bound e = rw e refl
 
   pub bound_told : {b : ℕ} → Some b ≡ first_bound x → has_no_table x ≡ false
-  bound_told e = by (has_no_table x) (λ f. absurd (table_none (e ∙ sym (no_table_is x f)))) (λ f. f)
+  bound_told e = by (has_no_table x) (λ f. let none = no_table_is x f in cc) (λ f. f)
 
   pub bound_value : {b : ℕ} → Some b ≡ first_bound x → b ≡ worst_step x (lowest_levels x)
-  bound_value e = same_table (e ∙ some_bound (bound_told e))
+  bound_value e = let some = some_bound (bound_told e) in cc
 
   pub none_told : None ≡ first_bound x → has_no_table x ≡ true
-  none_told e = by (has_no_table x) (λ f. f) (λ f. absurd (table_none (sym (some_bound f) ∙ sym e)))
+  none_told e = by (has_no_table x) (λ f. f) (λ f. let some = some_bound f in cc)
 
 -- ---- the walk
 
-module _ {x : Given} (ok : Workable x) where
-  pub run_start : (p : ℕ) → NotAbove x.curve x.tolerance (t x p) 0 0
-  run_start p = record { from_low = zero-le; to_low = zero-le }
+-- a run that has a level starts at a level of the curve
+pub level : {curve : List ℕ} {tolerance target : ℕ} {run : Run} → RunFound curve tolerance target (Some run) → run.from < length curve
+level {curve} {tolerance} {target} h = omega (arith, h.0, h.1.to_is, reaching_top curve (brightest tolerance target + 1))
 
+module _ {x : Given} (ok : Workable x) where
   pub last_value : length x.targets - 1 < length x.targets
   last_value = omega (arith, ok.usable.some_target)
 
@@ -85,17 +80,14 @@ module _ {x : Given} (ok : Workable x) where
 -- the runs up to that of p are found: each has a level, and the worst step of the lowest ones is known
 pub record Finding (x : Given) (starts₀ ends₀ starts ends : List ℕ) (p : ℕ) (run : Run) (worst : ℕ) : Type 0 where
   pub value : p < length x.targets
-  pub is : IsRun x.curve x.tolerance (t x p) run.from run.to
+  pub is : RunFound x.curve x.tolerance (t x p) (Some run)
   pub some : (q : ℕ) → q ≤ p → run_from x q < run_to x q
   pub worst_is : worst ≡ max_of (λ q. deviation_at x q (run_from x q) (run_from x (suc q))) p
   pub starts_are : Filled (run_from x) starts₀ starts (p + 1)
   pub ends_are : Filled (run_to x) ends₀ ends (p + 1)
 
 module _ {x : Given} (ok : Workable x) {starts₀ ends₀ : List ℕ} (asks : RunsAsk x starts₀ ends₀) where
-  -- an end of a run fits its place
-  pub from_fits : (p : ℕ) {run : Run} → RunFound x.curve x.tolerance (t x p) (Some run) → run.from < 65536
-  from_fits p h = omega (arith, h.0, h.1.to_is, reaching_top x.curve (brightest x.tolerance (t x p) + 1), ok.levels)
-
+  -- the end of a run fits its place
   pub to_fits : (p : ℕ) {run : Run} → RunFound x.curve x.tolerance (t x p) (Some run) → run.to < 65536
   to_fits p h = omega (arith, h.1.to_is, reaching_top x.curve (brightest x.tolerance (t x p) + 1), ok.levels)
 
@@ -103,7 +95,7 @@ module _ {x : Given} (ok : Workable x) {starts₀ ends₀ : List ℕ} (asks : Ru
   unfolding max_of
   finding_first h = record {
     value = ok.usable.some_target;
-    is = h.1;
+    is = h;
     some = λ q l. subst (λ (q : ℕ). run_from x q < run_to x q) (sym (le-zero l)) (omega (arith, h.0, h.1.from_is, h.1.to_is));
     worst_is = refl;
     starts_are = filled_more _ starts₀ starts₀ 0 _ (filled_none _ starts₀) (omega (arith, asks.starts_fit, ok.usable.some_target)) h.1.from_is;
@@ -111,25 +103,19 @@ module _ {x : Given} (ok : Workable x) {starts₀ ends₀ : List ℕ} (asks : Ru
   }
 
   module _ {starts ends : List ℕ} {p : ℕ} {run : Run} {worst : ℕ} (f : Finding x starts₀ ends₀ starts ends p run worst) where
-    pub level : run.from < length x.curve
-    level = omega (arith, f.some p (le_refl p), f.is.from_is, f.is.to_is, reaching_top x.curve (brightest x.tolerance (t x p) + 1))
-
     module _ (l : p < length x.targets - 1) where
       pub run_on : NotAbove x.curve x.tolerance (t x (p + 1)) run.from run.to
-      run_on = not_above x.curve x.tolerance (t x p) (t x (p + 1)) _ _ ok.usable.curve_keeps ok.usable.tolerance_high (le_of_lt (rises ok p l)) f.is
+      run_on = not_above x.curve x.tolerance (t x p) (t x (p + 1)) _ _ ok.usable.curve_keeps ok.usable.tolerance_high (le_of_lt (rises ok p l)) f.is.1
 
       module _ {next : Run} (h : RunFound x.curve x.tolerance (t x (p + 1)) (Some next)) where
-        pub next_level : next.from < length x.curve
-        next_level = omega (arith, h.0, h.1.to_is, reaching_top x.curve (brightest x.tolerance (t x (p + 1)) + 1))
-
         pub climbs : F x run.from ≤ F x next.from
-        climbs = ok.usable.curve_keeps.keeps _ _ (omega (arith, h.1.from_is, run_on.from_low)) next_level
+        climbs = ok.usable.curve_keeps.keeps _ _ (omega (arith, h.1.from_is, run_on.from_low)) (level h)
 
         pub finding_more : Finding x starts₀ ends₀ (set starts (p + 1) next.from) (set ends (p + 1) next.to) (p + 1) next
             (max worst (step_deviation (F x next.from - F x run.from) (target_step x p)))
         finding_more = record {
           value = next_value ok p l;
-          is = h.1;
+          is = h;
           some = λ q m.
               ⊎_elim (λ e. subst (λ (q : ℕ). run_from x q < run_to x q) (sym e) (omega (arith, h.0, h.1.from_is, h.1.to_is))) (λ k. f.some q (omega arith)) (eq-or-lt_of_le m);
           worst_is = sym (max_next _ p ∙ ap₂ max (sym f.worst_is) here);
@@ -138,7 +124,7 @@ module _ {x : Given} (ok : Workable x) {starts₀ ends₀ : List ℕ} (asks : Ru
         }
           where
             here : deviation_at x p (run_from x p) (run_from x (suc p)) ≡ step_deviation (F x next.from - F x run.from) (target_step x p)
-            here = rw (← add-one p, h.1.from_is, f.is.from_is) refl
+            here = rw (← add-one p, h.1.from_is, f.is.1.from_is) refl
 
     module _ (h : length x.targets - 1 ≤ p) where
       every : (q : ℕ) → q < length x.targets → T (any (allowed_at x q) (length x.curve))

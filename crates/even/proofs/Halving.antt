@@ -8,7 +8,7 @@ use native.Mathlib.Nat.{le_refl, le_trans, le_antisymm, not-suc-le-zero}
 use native.Mathlib.Omega.{arith}
 use lib.Dec.{T}
 use lib.ListN.{length, get_or}
-use Rattle.laws.proofs.Cases.{is_yes, yes_is, no_is}
+use Rattle.laws.proofs.Cases.{is_yes, no_is}
 use Rattle.laws.proofs.Numbers.{max_le}
 use Rattle.even.specs.Even.{Given, F, AllowedTable, target_step, worst_step}
 use Rattle.even.specs.Table.{feasible, has_no_table, lowest_levels, least_worst}
@@ -66,16 +66,6 @@ module _ {x : Given} {bound : ℕ} {before : List ℕ} (ok : Workable x) (some :
     }
 
     module _ {after : List ℕ} {k : ℕ} {good : Bool} (passed : RowsFilled x k words after good) where
-      pub halving_yes : low ≤ k → k ≤ high → good ≡ true → Halving x before after low k good
-      halving_yes a b e = record {
-        left = a;
-        bounded = le_trans b h.bounded;
-        enough = yes_is (sym passed.decides ∙ e);
-        none_below = h.none_below;
-        kept = kept_then h.kept passed.kept;
-        rows = passed.rows;
-      }
-
       pub halving_no : k < high → good ≡ false → Halving x before after (k + 1) high good
       halving_no b e = record {
         left = omega arith;

@@ -1,7 +1,7 @@
 -- The levels allowed at a P-value are those of its run, and the ends of the runs never fall.
 -- Assumes nothing.
 use Prim.Native.Nat.{ℕ, suc, ◌+◌, ◌-◌, ◌*◌, ◌/◌, ◌≤◌, ◌<◌}
-use mathlib.Core.Path.{◌≡◌, sym, ap, ap₂, subst, ◌∙◌}
+use mathlib.Core.Path.{◌≡◌, sym, ap, subst, ◌∙◌}
 use mathlib.Core.Logic.{⊎_elim}
 use mathlib.Core.Bool.{◌&&◌}
 use native.Mathlib.Nat.{le_refl, le_trans, le_of_lt, lt_of_le_of_lt, eq-or-lt_of_le, mul-add, add-sub_of_le, mul-le-mul_left, mul-le-mul_right, le-div_iff_mul-le}
@@ -16,10 +16,9 @@ use Rattle.laws.specs.Rises.{NeverFalls}
 use Rattle.laws.proofs.Cases.{same_outcome, le_or_lt}
 use Rattle.laws.proofs.Numbers.{quotient_mono}
 use Rattle.laws.proofs.Search.{any_intro, lowest_passes, lowest_top, lowest_le, lowest_is, lowest_under, lowest_found}
-use Rattle.reach.specs.declared.Run.{Run}
 use Rattle.even.specs.Even.{Given, F, t, AllowedAt, Usable}
 use Rattle.even.specs.Table.{allowed_at}
-use Rattle.even.specs.Runs.{margin, darkest, brightest, reaching, run_from, run_to, run_of, IsRun, NotAbove, AreRuns}
+use Rattle.even.specs.Runs.{margin, darkest, brightest, reaching, run_from, run_to, IsRun, NotAbove}
 
 -- ---- the first level that is not darker than l
 
@@ -80,11 +79,6 @@ not_above curve w s t from to keeps h a run = record {
   from_low = rw run.from_is (reaching_rises curve keeps _ _ (darkest_rises w s t h a));
   to_low = rw run.to_is (reaching_rises curve keeps _ _ (omega (arith, brightest_rises w s t a)));
 }
-
--- what the lists of runs hold
-pub run_found : {x : Given} {starts ends : List ℕ} → AreRuns x starts ends → (p : ℕ) → p < length x.targets → {run : Run}
-    → run.from ≡ get_or starts p 0 → run.to ≡ get_or ends p 0 → run ≡ run_of x p
-run_found runs p l a b = ap₂ (λ (a b : ℕ). let run : Run = record { from = a; to = b } in run) (a ∙ runs.starts_are p l) (b ∙ runs.ends_are p l)
 
 module _ (x : Given) where
   pub allowed_is : (p d : ℕ) → T (allowed_at x p d) → AllowedAt x p d

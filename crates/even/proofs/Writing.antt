@@ -1,18 +1,17 @@
 -- The walk through the filled rows: its levels are those of the lowest path.
 -- Assumes nothing.
-use Prim.Native.Nat.{ℕ, suc, ◌+◌, ◌-◌, ◌*◌, ◌/◌, ◌^◌, max, ◌≤◌, ◌<◌, zero-le}
+use Prim.Native.Nat.{ℕ, suc, ◌+◌, ◌-◌, max, ◌≤◌, ◌<◌, zero-le}
 use mathlib.Core.Path.{◌≡◌, refl, sym, ap, subst, ◌∙◌}
 use mathlib.Core.Logic.{⊎_elim}
 use mathlib.Core.Bool.{◌&&◌}
-use mathlib.Core.List.{List, ◌++◌}
+use mathlib.Core.List.{List}
 use native.Mathlib.Nat.{le_refl, le_trans}
 use native.Mathlib.Numerals.{add-one}
 use native.Mathlib.Omega.{arith}
 use lib.Dec.{T, leb}
-use lib.ListN.{length, get_or, set, drop}
+use lib.ListN.{length, get_or, set}
 use mir.Facts.{and_yes, yes_and, leb_yes, yes_leb, clash}
 use Rattle.laws.specs.Search.{lowest}
-use Rattle.laws.specs.Fill.{tab}
 use Rattle.laws.proofs.Cases.{is_yes, yes_is, le_or_lt}
 use Rattle.laws.proofs.Search.{lowest_passes, lowest_under, lowest_is}
 use Rattle.laws.proofs.Fill.{Filled, filled_none, filled_more}
@@ -27,7 +26,7 @@ use Rattle.even.specs.Table.{step_within, tables_within, good_at, feasible}
 use Rattle.even.specs.Runs.{run_from, run_to, run_of}
 use Rattle.even.specs.Filled.{Workable}
 use Rattle.even.specs.Steps.{least_step, most_step, IsSpan}
-use Rattle.even.specs.Filling.{WriteAsks, lowest_within}
+use Rattle.even.specs.Filling.{WriteAsks}
 use Rattle.even.proofs.Paths.{Path, path_from, path_good, lowest_path_lem, next_good, next_is}
 use Rattle.even.proofs.Runs.{reaching_top}
 use Rattle.even.proofs.Steps.{step_fits_lem}
@@ -232,21 +231,9 @@ module _ {x : Given} {k : ℕ} {words before : List ℕ} (ok : Workable x) (asks
     pub level_small : d < length x.curve
     level_small = rw w.level_is (path_small p w.value)
 
-    pub writing_all : length x.targets - 1 ≤ p → after ≡ lowest_within x k ++ drop (length x.targets) before
-    writing_all h =
-        let e : p + 1 ≡ length x.targets = omega (arith, w.value) in
-        w.entries.is ∙ ap (λ (n : ℕ). tab (lowest_path (tables_within x k)) n ++ drop n before) e
-
     -- ---- the next P-value
 
     module _ (m : p < length x.targets - 1) {run : Run} (run_is : run ≡ run_of x (p + 1)) {least most : ℕ} (span : IsSpan k (target_step x p) least most) where
-      pub least_fits : F x d + least < 2 ^ 28
-      least_fits =
-          omega (arith, span.least_is, small (target_step x p) (k * target_step x p) (omega (arith, ok.targets_small (suc p) (omega arith))), ok.curve_small d level_small)
-        where
-          small : (g c : ℕ) → g < 2 ^ 26 → (1000 * g - c + 999) / 1000 < 2 ^ 27
-          small g c h = omega arith
-
       good_here : T (good_at x k p d)
       good_here =
           rw w.level_is

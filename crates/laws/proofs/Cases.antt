@@ -1,26 +1,22 @@
 -- Tests taken apart into their cases. `mir.Facts` has those of `&&`, `||`, `leb`, `ltb` and `eqb`.
 -- Assumes nothing.
-use mathlib.Core.Path.{◌≡◌, refl, sym}
+use mathlib.Core.Path.{◌≡◌, refl, sym, ap, ◌∙◌}
 use mathlib.Core.Bool.{Bool, true, false, cond, not, ◌||◌}
 use mathlib.Core.Logic.{◌⊎◌, inl, inr}
 use Prim.Native.Nat.{ℕ, ◌≤◌, ◌<◌}
 use lib.Dec.{T, leb}
 use borrow.Author.Tests.{leb-true, leb-false}
+use Rattle.std.specs.Prelude.{Result, Err}
+use Rattle.std.specs.Result.{IsErrAnd}
+use Rattle.std.proofs.lemmas.Result.{err_from_is_err_and}
+pub use lib.Ieee.Bits.{is_true as is_yes, is_false as is_no}
 
 -- by the outcome of a test
 pub by {ℓ} : {X : Type ℓ} (b : Bool) → (b ≡ true → X) → (b ≡ false → X) → X
 by true f g = f refl
 by false f g = g refl
 
--- a test and its outcome
-pub is_yes : (b : Bool) → T b → b ≡ true
-is_yes true t = refl
-is_yes false t = absurd t
-
-pub is_no : (b : Bool) → T (not b) → b ≡ false
-is_no true t = absurd t
-is_no false t = refl
-
+-- a test by its outcome, where the goal names the test
 pub yes_is : {b : Bool} → b ≡ true → T b
 yes_is e = rw e tt
 
@@ -45,3 +41,7 @@ pub yes_or : (a b : Bool) → T a ⊎ T b → T (a || b)
 yes_or true b t = tt
 yes_or false b (inl t) = absurd t
 yes_or false b (inr t) = t
+
+-- where `?` meets an error, that error is what is returned
+pub err_returned : {T E : Type 0} {r : Result T E} {e : E} → IsErrAnd r (λ d. d ≡ e) → r ≡ Err e
+err_returned {r = r} h = let (d, was, same) = err_from_is_err_and r h in was ∙ ap Err same

@@ -88,9 +88,6 @@ pub record Copied {ℓ} {A : Type ℓ} (xs d now : List A) (i : ℕ) : Type ℓ 
   pub is : now ≡ take i xs ++ drop i d
 
 module _ {ℓ} {A : Type ℓ} (xs d : List A) where
-  pub copied_none : Copied xs d d 0
-  copied_none = record { is = refl }
-
   pub copied_more : (now : List A) (i : ℕ) (x : A) → Copied xs d now i → i < length xs → i < length d → x ≡ get_or xs i x → Copied xs d (set now i x) (i + 1)
   copied_more now i x h l k e = record {
     is =
@@ -102,6 +99,3 @@ module _ {ℓ} {A : Type ℓ} (xs d : List A) where
   copied_all now i h l k =
       let e : i ≡ length xs = omega arith in
       h.is ∙ rw (e, take-length xs)
-
-  pub copied_length : (now : List A) (i : ℕ) → Copied xs d now i → i ≤ length xs → i ≤ length d → length now ≡ length d
-  copied_length now i h k l = ap length h.is ∙ length_front d (take i xs) i (length-take-le i xs k ∙ sym (length-take-le i d l))

@@ -4,6 +4,5 @@ pub mod Cases
 pub mod Numbers
 pub mod Search
 pub mod Fill
-pub mod Lists
 pub mod Rises
 pub mod Signed

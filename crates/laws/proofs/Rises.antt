@@ -11,6 +11,8 @@ use lib.ListN.{length, get_or, drop}
 use borrow.Author.Tests.{le-leb, lt-leb}
 use mir.Facts.{and_yes}
 use Rattle.laws.specs.Rises.{rises_from, rises_by, NeverFalls}
+use Rattle.laws.specs.Fill.{tab}
+use Rattle.laws.proofs.Fill.{length_tab, get_or_tab}
 use Rattle.laws.proofs.Numbers.{Grows, never_falls}
 
 from_at : (s x : ℕ) (ys : List ℕ) → T (rises_from s x ys) → (i : ℕ) → i < length ys → get_or (x ∷ ys) i 0 + s ≤ get_or ys i 0
@@ -55,3 +57,11 @@ module _ {s : ℕ} {xs : List ℕ} {x i : ℕ} (h : RisesSoFar s xs x i) where
   pub rises_end : drop i xs ≡ [] → rises_by s xs ≡ true
   unfolding rises_from
   rises_end e = h.is ∙ ap (rises_from s x) e
+
+-- a list of a function's values never falls where the function does not
+pub tab_keeps : (f : ℕ → ℕ) (n : ℕ) → ((i k : ℕ) → i ≤ k → k < n → f i ≤ f k) → NeverFalls (tab f n)
+tab_keeps f n h = record {
+  keeps = λ i k ik l.
+      let kn : k < n = rw length_tab at l in
+      rw (get_or_tab f n i 0 (omega arith), get_or_tab f n k 0 kn) (h i k ik kn);
+}

@@ -1,8 +1,8 @@
 -- What bounded search finds.
 -- Assumes nothing.
 use Prim.Native.Nat.{ℕ, zero, suc, ◌+◌, ◌-◌, ◌≤◌, ◌<◌, zero-le, suc-le-suc}
-use mathlib.Core.Path.{◌≡◌, refl, sym, ap, ap₂, subst, ◌∙◌}
-use mathlib.Core.Bool.{Bool, true, false, ◌||◌, ◌&&◌, or-false, or_assoc}
+use mathlib.Core.Path.{◌≡◌, refl, sym, ap₂, subst}
+use mathlib.Core.Bool.{Bool, true, false, ◌||◌, ◌&&◌}
 use mathlib.Core.Logic.{inl, inr, ⊎_elim}
 use native.Mathlib.Nat.{le_refl, le_of_suc-le-suc, not-suc-le-zero, eq-or-lt_of_le}
 use native.Mathlib.Numerals.{add-one}
@@ -42,15 +42,6 @@ pub any_same : (p q : ℕ → Bool) (n : ℕ) → ((i : ℕ) → i < n → p i �
 unfolding any
 any_same p q zero e = refl
 any_same p q (suc n) e = ap₂ ◌||◌ (e zero (omega arith)) (any_same (λ i. p (suc i)) (λ i. q (suc i)) n (λ i h. e (suc i) (suc-le-suc h)))
-
--- one number more
-any_suc : (p : ℕ → Bool) (n : ℕ) → any p (suc n) ≡ any p n || p n
-unfolding any
-any_suc p zero = or-false (p zero)
-any_suc p (suc n) = ap (◌||◌ (p zero)) (any_suc (λ i. p (suc i)) n) ∙ sym (or_assoc (p zero) _ _)
-
-pub any_next : (p : ℕ → Bool) (n : ℕ) → any p (n + 1) ≡ any p n || p n
-any_next p n = rw (add-one n) (any_suc p n)
 
 -- where some number passes, the lowest does
 pub lowest_passes : (p : ℕ → Bool) (n : ℕ) → T (any p n) → T (p (lowest p n))

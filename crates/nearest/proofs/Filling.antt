@@ -1,10 +1,9 @@
 -- The table filled entry by entry, with the largest error so far.
 -- Assumes nothing.
-use Rattle.std.proofs.Common.{◌≡◌, refl, sym, ap, subst, ◌∙◌, List, ◌++◌, ℕ, ◌+◌, max, ◌≤◌, ◌<◌, le_refl, arith, length, get_or, drop, set}
-use Rattle.std.proofs.Math.Seq.{length_front, length-take-le}
+use Rattle.std.proofs.Common.{◌≡◌, refl, sym, ap, subst, ◌∙◌, List, ◌++◌, ℕ, ◌+◌, max, ◌≤◌, ◌<◌, arith, length, get_or, drop, set}
 use Rattle.laws.specs.Fill.{tab}
 use Rattle.laws.specs.Numbers.{max_of}
-use Rattle.laws.proofs.Fill.{length_tab, fill}
+use Rattle.laws.proofs.Fill.{fill}
 use Rattle.laws.proofs.Numbers.{max_next, max_same}
 use Rattle.nearest.specs.Nearest.{error_at, nearest_level, nearest_table, largest_error, Fillable, Filled}
 use Rattle.nearest.specs.Places.{NotPast, EntryOf}
@@ -41,14 +40,6 @@ filling_none curve targets before start = record {
 
 module _ {curve targets before table : List ℕ} {largest : ℕ} {place : Place} {p : ℕ} (h : Filling curve targets before table largest place p)
     (asked : Fillable curve targets before) where
-  pub filling_length : length table ≡ length before
-  filling_length =
-      ap length h.table_is
-      ∙ length_front before (tab (entry_at curve targets) p) p (length_tab (entry_at curve targets) p ∙ sym (length-take-le p before (omega arith)))
-
-  pub not_past_next : p < length targets → NotPast place.curve.now (get_or targets p 0) place
-  not_past_next l = subst (λ (c : List ℕ). NotPast c (get_or targets p 0) place) (sym h.of_curve) (h.ahead p (le_refl p) l)
-
   pub filling_more : {entry : Entry} {next : Place} → p < length targets → next.curve.now ≡ place.curve.now → NotPast place.curve.now (get_or targets p 0) next
       → EntryOf next.curve.now (get_or targets p 0) entry
       → (largest' : ℕ) → largest' ≡ max largest entry.error.0 → Filling curve targets before (set table p entry.level.0) largest' next (p + 1)

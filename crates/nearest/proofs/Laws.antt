@@ -1,11 +1,12 @@
 -- The laws of the nearest level and of the nearest table.
 -- Assumes nothing.
-use Rattle.std.proofs.Common.{◌≡◌, sym, List, not, ⊎_elim, ℕ, suc, ◌-◌, ◌≤◌, ◌<◌, arith, length, get_or}
+use Rattle.std.proofs.Common.{◌≡◌, List, not, ⊎_elim, ℕ, suc, ◌-◌, ◌≤◌, ◌<◌, arith, length, get_or}
 use Rattle.std.proofs.Math.Facts.{T_not, ltb_yes, yes_ltb, clash}
 use Rattle.laws.specs.Search.{any}
 use Rattle.laws.specs.Rises.{NeverFalls}
 use Rattle.laws.proofs.Cases.{no_is, le_or_lt}
 use Rattle.laws.proofs.Search.{any_intro, any_none, lowest_is, lowest_top}
+use Rattle.laws.proofs.Rises.{tab_keeps}
 use Rattle.laws.proofs.Fill.{length_tab, get_or_tab}
 use Rattle.nearest.specs.Nearest.{error_at, nearer, nearest_level, nearest_table}
 use Rattle.nearest.proofs.Numbers.{stays_nearer, LowestLeast, some_least}
@@ -71,8 +72,5 @@ module _ (curve targets : List ℕ) where
   table_at p h = get_or_tab _ (length targets) p 0 h
 
   pub table_never_falls : NeverFalls curve → NeverFalls targets → NeverFalls (nearest_table curve targets)
-  table_never_falls c t = record {
-    keeps = λ i k l h.
-        let b : k < length targets = rw (sym table_length) h in
-        rw (table_at i (omega arith), table_at k b) (nearest_mono curve c (get_or targets i 0) (get_or targets k 0) (t.keeps i k l b));
-  }
+  unfolding nearest_table
+  table_never_falls c t = tab_keeps _ (length targets) (λ i k ik l. nearest_mono curve c (get_or targets i 0) (get_or targets k 0) (t.keeps i k ik l))

@@ -1,8 +1,7 @@
 -- The walk along a curve, level by level, and what the place of a target says of the nearest level.
 -- Assumes nothing.
-use Rattle.std.proofs.Common.{◌≡◌, refl, sym, ap, List, ⊎_elim, ℕ, ◌+◌, ◌-◌, ◌≤◌, ◌<◌, le_refl, arith, below_more, length, get_or}
+use Rattle.std.proofs.Common.{◌≡◌, sym, ap, List, ⊎_elim, ℕ, ◌-◌, ◌≤◌, ◌<◌, le_refl, arith, length, get_or}
 use Rattle.laws.specs.Numbers.{distance}
-use Rattle.laws.specs.Rises.{NeverFalls}
 use Rattle.laws.proofs.Cases.{le_or_lt}
 use Rattle.nearest.specs.Nearest.{error_at, Walkable}
 use Rattle.nearest.specs.Places.{NotPast, PlaceOf, EntryOf}
@@ -10,17 +9,6 @@ use Rattle.nearest.specs.declared.Place.{Place}
 use Rattle.nearest.proofs.Laws.{nearest_is}
 
 -- ---- the walk
-
--- before the first level of any curve, a place is past no target
-pub at_start : (curve : List ℕ) (t : ℕ) {place : Place} → place.below ≡ 0 → place.above ≡ 0 → place.dark.0 ≡ get_or curve 0 0 → NotPast curve t place
-at_start curve t first none dark = record {
-  inside = omega arith;
-  order = omega arith;
-  dark_is = rw first dark;
-  under = λ d l. omega arith;
-  equal = λ d a l. omega arith;
-  darker = λ d l. omega arith;
-}
 
 module _ {curve : List ℕ} {t : ℕ} {place : Place} (h : NotPast curve t place) where
   -- not past a brighter target either
@@ -33,45 +21,6 @@ module _ {curve : List ℕ} {t : ℕ} {place : Place} (h : NotPast curve t place
     equal = h.equal;
     darker = h.darker;
   }
-
-  module _ (more : place.above < length curve) (under : get_or curve place.above 0 < t) where
-    -- over a level that is brighter than the last
-    pub over_brighter : place.dark.0 < get_or curve place.above 0
-        → NotPast curve t (record { curve = place.curve; below = place.above; dark = record { 0 = get_or curve place.above 0 }; above = place.above + 1; walkable = place.walkable })
-    over_brighter b = record {
-      inside = omega arith;
-      order = omega arith;
-      dark_is = refl;
-      under = below_more (λ d. get_or curve d 0 < t) place.above h.under under;
-      equal = λ d a l.
-          let e : d ≡ place.above = omega arith in
-          ap (λ (i : ℕ). get_or curve i 0) e;
-      darker = λ d l. ⊎_elim (λ a. omega (arith, h.dark_is, h.equal d a l)) (λ a. omega (arith, h.dark_is, h.darker d a)) (le_or_lt place.below d);
-    }
-
-    -- over one that is not
-    pub over_equal : NeverFalls curve → get_or curve place.above 0 ≤ place.dark.0
-        → NotPast curve t (record { curve = place.curve; below = place.below; dark = record { 0 = get_or curve place.above 0 }; above = place.above + 1; walkable = place.walkable })
-    over_equal never b =
-        let e : get_or curve place.above 0 ≡ get_or curve place.below 0 =
-        omega (arith, h.dark_is, never.keeps place.below place.above (omega (arith, h.order)) more) in
-        record {
-          inside = omega arith;
-          order = omega (arith, h.order);
-          dark_is = e;
-          under = below_more (λ d. get_or curve d 0 < t) place.above h.under under;
-          equal = λ d a l.
-              below_more (λ d. place.below ≤ d → get_or curve d 0 ≡ get_or curve place.below 0) place.above (λ d l a. h.equal d a l) (λ a. e) d l a;
-          darker = h.darker;
-        }
-
-  -- up to the first level that is not darker than the target
-  pub arrived : NeverFalls curve → place.above < length curve → t ≤ get_or curve place.above 0 → PlaceOf curve t place
-  arrived never more l = record { not_past = h; over = λ d a b. omega (arith, never.keeps place.above d a b) }
-
-  -- or to the end
-  pub all_under : length curve ≤ place.above → PlaceOf curve t place
-  all_under l = record { not_past = h; over = λ d a b. omega arith }
 
 -- ---- the entry of a target, from its place
 

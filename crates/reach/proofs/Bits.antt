@@ -4,73 +4,34 @@ use mathlib.Core.Path.{◌≡◌, refl, sym, ap, ◌∙◌}
 use mathlib.Core.Logic.{◌⊎◌, inl, inr, ⊎_elim, ◌≢◌}
 use mathlib.Core.Bool.{true}
 use mathlib.Core.List.{List}
-use Prim.Native.Nat.{ℕ, suc, ◌+◌, ◌-◌, ◌*◌, ◌/◌, ◌%◌, ◌^◌, max, ◌≤◌, ◌<◌}
-use native.Mathlib.Nat.{pow-suc, mul-mod_left, one-mul, mod-eq_of_lt, div-eq_of_lt, zero-div, div-one, le_refl}
+use Prim.Native.Nat.{ℕ, ◌+◌, ◌*◌, ◌/◌, ◌%◌, ◌^◌, ◌≤◌, ◌<◌}
+use native.Mathlib.Nat.{div-one, le_refl}
 use native.Mathlib.Omega.{arith}
 use lib.Dec.{eqb}
 use lib.ListN.{length, get_or}
 use lib.Seq.{get_or-set_same, get_or-set_other}
-use lib.Bits.{bit_and, bit_or, or_shr, or_step, or_add_and, and_le_l, and_le_r, and_mask}
-use lib.Arith.{bin_ind, digits_mod, lt_of_le-ne}
-use lib.Pow.{pow-lt, pow-add, shl-shr, shr-shr, shr_le}
+use lib.Bits.{bit_or, or_add_and}
+use lib.Arith.{bin_ind}
+use lib.Pow.{shr-shr, shr_le}
 use mir.Facts.{clash}
 use borrow.Author.Tests.{eq-eqb, eqb-true, eqb-false}
 use Rattle.laws.proofs.Cases.{by, le_or_lt}
+use mir.Syntax.{w32}
+use Rattle.std.proofs.lemmas.Bool.{cases_eq}
+use Rattle.std.proofs.lemmas.Nat.{one_shl}
+use Rattle.std.proofs.lemmas.Nat.Bits.{bit_at_set_same, bit_at_set_other}
 use Rattle.reach.specs.Bits.{digit, bit_at, marked}
-
-pub same_or_not : (a b : ℕ) → (a ≡ b) ⊎ (a ≢ b)
-same_or_not a b = by (eqb a b) (λ e. inl (eqb-true a b e)) (λ e. inr (eqb-false a b e))
 
 -- ---- digits
 
--- `1 << bit`
-pub shl_one : (place : ℕ) → (1 * 2 ^ (place % 32)) % 2 ^ 32 ≡ 2 ^ (place % 32)
-shl_one place = rw (one-mul (2 ^ (place % 32))) (mod-eq_of_lt (pow-lt {i = place % 32} {j = 32} (omega arith)))
-
--- `(word >> bit) & 1`
-pub test_digit : (word k : ℕ) → bit_and (word / 2 ^ k) 1 ≡ digit word k
+-- a word of 32 bits with digit b set
+pub digit_set : (word b : ℕ) → b < 32 → digit (bit_or word (2 ^ b)) b ≡ 1
 unfolding digit
-test_digit word k = and_mask (word / 2 ^ k) 1
+digit_set word b h = let e = bit_at_set_same w32 word b h in rw (one_shl b 32 h) at e
 
-digit_or : (a b k : ℕ) → digit (bit_or a b) k ≡ max (digit a k) (digit b k)
+pub digits_kept : (word b k : ℕ) → b < 32 → k ≢ b → digit (bit_or word (2 ^ b)) k ≡ digit word k
 unfolding digit
-digit_or a b k =
-    ap (λ (x : ℕ). x % 2) (or_shr a b k ∙ or_step (a / 2 ^ k) (b / 2 ^ k))
-    ∙ digits_mod (bit_or (a / 2 ^ k / 2) (b / 2 ^ k / 2)) (omega arith)
-
-digit_le : (word k : ℕ) → digit word k ≤ 1
-unfolding digit
-digit_le word k = omega arith
-
--- a power of two has one digit
-power_here : (k : ℕ) → digit (2 ^ k) k ≡ 1
-unfolding digit
-power_here k = ap (λ (x : ℕ). x / 2 ^ k % 2) (sym (one-mul (2 ^ k))) ∙ ap (λ (x : ℕ). x % 2) (shl-shr 1 k)
-
-power_above : (j k : ℕ) → digit (2 ^ (suc j + k)) k ≡ 0
-unfolding digit
-power_above j k = rw (pow-add 2 (suc j) k, shl-shr (2 ^ suc j) k, pow-suc 2 j) (mul-mod_left (2 ^ j) 2)
-
-power_other : (b k : ℕ) → k ≢ b → digit (2 ^ b) k ≡ 0
-unfolding digit
-power_other b k other =
-    ⊎_elim
-    (λ (l : k ≤ b).
-    let e : b ≡ suc (b - k - 1) + k = omega (arith, lt_of_le-ne l other) in
-    rw e (power_above (b - k - 1) k))
-    (λ l. ap (λ (x : ℕ). x % 2) (div-eq_of_lt (pow-lt l)))
-    (le_or_lt k b)
-
--- a word with digit b set
-pub set_here : (word b : ℕ) → digit (bit_or word (2 ^ b)) b ≡ 1
-set_here word b = digit_or word (2 ^ b) b ∙ omega (arith, power_here b, digit_le word b)
-
-pub set_other : (word b k : ℕ) → k ≢ b → digit (bit_or word (2 ^ b)) k ≡ digit word k
-set_other word b k other = digit_or word (2 ^ b) k ∙ omega (arith, power_other b k other)
-
-pub zero_digit : (k : ℕ) → digit 0 k ≡ 0
-unfolding digit
-zero_digit k = ap (λ (x : ℕ). x % 2) (zero-div (2 ^ k))
+digits_kept word b k h other = let e = bit_at_set_other w32 word b h k other in rw (one_shl b 32 h) at e
 
 -- a word with a digit that is 1 is not zero
 pub digit_pos : (word k : ℕ) → digit word k ≡ 1 → 0 < word
@@ -88,12 +49,6 @@ some_digit {X} =
     (λ e. half (omega (arith, eqb-false (word % 2) 1 e)) (λ k d. found (1 + k) (ap (λ (x : ℕ). x % 2) (sym (shr-shr word 1 k)) ∙ d))))
 
 -- two words together are zero where both are
-pub or_left : (a b : ℕ) → a ≤ bit_or a b
-or_left a b = omega (arith, or_add_and a b, and_le_r a b)
-
-pub or_right : (a b : ℕ) → b ≤ bit_or a b
-or_right a b = omega (arith, or_add_and a b, and_le_l a b)
-
 pub or_either : (a b : ℕ) → 0 < bit_or a b → (0 < a) ⊎ (0 < b)
 or_either a b h = ⊎_elim (λ (l : a ≤ 0). inr (omega (arith, or_add_and a b))) (λ l. inl l) (le_or_lt a 0)
 
@@ -126,7 +81,7 @@ module _ (words : List ℕ) (place : ℕ) (inside : place < 32 * length words) w
 
   pub marked_here : bit_at (marked words place) place ≡ true
   unfolding bit_at
-  marked_here = rw word_here (eq-eqb _ 1 (set_here (get_or words (place / 32) 0) (place % 32)))
+  marked_here = rw word_here (eq-eqb _ 1 (digit_set (get_or words (place / 32) 0) (place % 32) (omega arith)))
 
   pub marked_other : (other : ℕ) → other ≢ place → bit_at (marked words place) other ≡ bit_at words other
   unfolding bit_at
@@ -134,6 +89,6 @@ module _ (words : List ℕ) (place : ℕ) (inside : place < 32 * length words) w
       ⊎_elim
       (λ (e : other / 32 ≡ place / 32).
       let bits : other % 32 ≢ place % 32 = λ f. differs (omega arith) in
-      rw (e, word_here, set_other (get_or words (place / 32) 0) (place % 32) (other % 32) bits) refl)
+      rw (e, word_here, digits_kept (get_or words (place / 32) 0) (place % 32) (other % 32) (omega arith) bits) refl)
       (λ f. bit_same (marked words place) words other (marked_word words place (other / 32) f))
-      (same_or_not (other / 32) (place / 32))
+      (cases_eq (other / 32) (place / 32))

@@ -11,31 +11,18 @@ use lib.Dec.{leb, ltb, eqb}
 use lib.ListN.{length, set}
 use lib.Seq.{get_or-set_same, get_or-set_other}
 use lib.Bits.{bit_or}
+use Rattle.std.proofs.lemmas.Nat.{le_or_l, le_or_r}
 use mir.Facts.{and_yes, leb_yes, ltb_yes, clash}
 use borrow.Author.Tests.{le-leb, lt-ltb, ltb-true, eqb-true, eq-eqb}
 use Rattle.laws.specs.Search.{any}
 use Rattle.laws.proofs.Cases.{is_yes, yes_is, same_outcome, le_or_lt}
 use Rattle.laws.proofs.Search.{any_intro, any_none, some_of}
 use Rattle.reach.specs.Bits.{digit, bit_at}
-use Rattle.reach.specs.Rows.{lit, reaches, RowKept, RowAsks, RowFilled}
+use Rattle.reach.specs.Rows.{lit, reaches, RowAsks, RowFilled}
 use Rattle.reach.specs.Words.{Skipped, level_of, WordFilled}
-use Rattle.reach.proofs.Bits.{bit_same, digit_pos, some_digit, or_left, or_right, or_either}
+use Rattle.reach.proofs.Bits.{bit_same, digit_pos, some_digit, or_either}
 use Rattle.reach.proofs.Rows.{in_run, lit_is, is_lit, lit_none, row_bit, row_kept, kept_none, kept_set}
 use Rattle.reach.proofs.Steps.{skipped_next, reaches_later, skipped_later}
-
--- what the row asks, its words ask up to any level
-pub asks_kept : {curve before words : List ℕ} {p to end next_to least most : ℕ} → RowAsks curve before p to next_to least most
-    → RowKept before words p → end ≤ to → RowAsks curve words p end next_to least most
-asks_kept asks kept l = record {
-  few = asks.few;
-  inside = omega arith;
-  levels = asks.levels;
-  run = omega arith;
-  next = asks.next;
-  never_falls = asks.never_falls;
-  least_small = asks.least_small;
-  most_small = asks.most_small;
-}
 
 -- where the word i of the row starts, of the levels from `from` on
 abbrev pub starts : (from i : ℕ) → ℕ
@@ -137,11 +124,11 @@ module _ {curve before words : List ℕ} {p from to next_from next_to least most
       ⊎_elim
       (λ (l : d ≤ e).
       let one : digit bits (e % 32) ≡ 1 = eqb-true _ 1 (sym (new_bit e l at.high) ∙ at.bit) in
-      omega (arith, digit_pos bits (e % 32) one, or_right gathered bits))
+      omega (arith, digit_pos bits (e % 32) one, le_or_r gathered bits))
       (λ (l : e < d).
       let under : e < below = omega (arith, at.high) in
       let was : ltb 0 gathered ≡ true = h.filled.found ∙ is_yes _ (any_intro (lit words p from below) (length curve) e u (yes_is (is_lit words p from below e record { low = at.low; high = under; bit = sym (old_bit e at.low l) ∙ at.bit }))) in
-      omega (arith, ltb-true 0 gathered was, or_left gathered bits))
+      omega (arith, ltb-true 0 gathered was, le_or_l gathered bits))
       (le_or_lt d e))
 
   pub filling_more : Filling curve before after p from to next_from next_to least most (bit_or gathered bits) (i + 1) r
@@ -160,11 +147,3 @@ module _ {curve before words : List ℕ} {p from to next_from next_to least most
         skipped_later before (p + 1) next_to asks.never_falls h.next_low h.skipped (starts from (i + 1)) r (omega arith)
         (skipped_next curve _ least 0 (max d end) asks.never_falls (rw next_row at word.skipped) (starts from (i + 1)) (omega arith));
   }
-
--- the whole run is filled
-pub filling_all : {curve before words : List ℕ} {p from to next_from next_to least most gathered i q : ℕ}
-    → Filling curve before words p from to next_from next_to least most gathered i q → to ≤ i * 32
-    → RowFilled curve before words p from to next_from next_to least most (ltb 0 gathered)
-filling_all {from = from} {to = to} {i = i} h l =
-    let e : min (starts from i) to ≡ to = omega arith in
-    rw e at h.filled

@@ -9,7 +9,8 @@ use native.Mathlib.Omega.{arith}
 use lib.ListN.{length}
 use Rattle.reach.specs.Bits.{bit_at, marked}
 use Rattle.reach.specs.Rows.{lit, RowKept, RowThere, RunLit}
-use Rattle.reach.proofs.Bits.{same_or_not, marked_here, marked_other}
+use Rattle.std.proofs.lemmas.Bool.{cases_eq}
+use Rattle.reach.proofs.Bits.{marked_here, marked_other}
 use Rattle.reach.proofs.Rows.{in_run, all_in_run, kept_mark}
 
 -- the run's levels below d are lit
@@ -25,7 +26,7 @@ module _ {before words : List ℕ} {p from d : ℕ} (h : Lighting before words p
         ⊎_elim
         (λ s. rw s (marked_here words (p * 1024 + d) inside))
         (λ other. marked_other words (p * 1024 + d) inside (p * 1024 + e) (λ s. other (omega arith)) ∙ h.set e a (omega (arith, other)))
-        (same_or_not e d);
+        (cases_eq e d);
   }
     where
       inside : p * 1024 + d < 32 * length words

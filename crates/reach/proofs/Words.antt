@@ -17,7 +17,9 @@ use Rattle.laws.proofs.Cases.{le_or_lt}
 use Rattle.reach.specs.Bits.{digit}
 use Rattle.reach.specs.Rows.{lit, reaches, First, RowAsks}
 use Rattle.reach.specs.Words.{InWord, Skipped, level_of, WordFilled}
-use Rattle.reach.proofs.Bits.{same_or_not, set_here, set_other, zero_digit}
+use Rattle.std.proofs.lemmas.Bool.{cases_eq}
+use Rattle.std.proofs.lemmas.Nat.Bits.{bit_at-zero}
+use Rattle.reach.proofs.Bits.{digit_set, digits_kept}
 use Rattle.reach.proofs.Rows.{none_in_run, lit_is, is_lit}
 use Rattle.reach.proofs.Steps.{reaches_by, skipped_next, none_past}
 
@@ -31,7 +33,7 @@ ltb_next d e x h =
     (λ (l : d ≤ e). rw (le-ltb e d l, le-ltb e (d + 1) (omega (arith, other))) refl)
     (λ (l : e < d). rw (lt-ltb e d l, lt-ltb e (d + 1) (omega arith)) refl)
     (le_or_lt d e))
-    (same_or_not e d)
+    (cases_eq e d)
 
 -- the levels from `from` to d − 1 are in the word, and q is where the search for d goes on
 pub record Gathering (curve words : List ℕ) (p from to next_from next_to least most bits d q : ℕ) : Type 0 where
@@ -45,11 +47,12 @@ pub record Gathering (curve words : List ℕ) (p from to next_from next_to least
 -- no level is in it yet
 pub gathering_none : (curve words : List ℕ) (p from to next_from next_to least most : ℕ)
     → Gathering curve words p from to next_from next_to least most 0 from next_from
+unfolding digit
 gathering_none curve words p from to next_from next_to least most = record {
   low = le_refl from;
   high = omega arith;
   here = λ k.
-      ap (λ (x : ℕ). eqb x 1) (zero_digit k)
+      ap (λ (x : ℕ). eqb x 1) (bit_at-zero k)
       ∙ sym (none_in_run from from (level_of from k) _ (le_refl from));
   after = le_refl next_from;
   skipped = record { dim = λ e l u i on. clash u (lit_is words (p + 1) next_from next_to e on).low };
@@ -99,11 +102,11 @@ module _ {curve words : List ℕ} {p from to next_from next_to least most bits d
         next (bit_or bits (2 ^ (d % 32)))
         (λ k.
         ⊎_elim
-        (λ s. rw (s, set_here bits (d % 32), level, le-leb from d h.low, lt-ltb d (d + 1) (omega arith), some_way) refl)
+        (λ s. rw (s, digit_set bits (d % 32) (omega arith), level, le-leb from d h.low, lt-ltb d (d + 1) (omega arith), some_way) refl)
         (λ other.
-        ap (λ (x : ℕ). eqb x 1) (set_other bits (d % 32) k other)
+        ap (λ (x : ℕ). eqb x 1) (digits_kept bits (d % 32) k (omega arith) other)
         ∙ h.here k ∙ ap (λ (b : Bool). leb from (level_of from k) && b) (ltb_next d (level_of from k) _ (λ s. absurd (other (omega arith)))))
-        (same_or_not k (d % 32)))
+        (cases_eq k (d % 32)))
       where
         level : level_of from (d % 32) ≡ d
         level = omega arith
@@ -140,19 +143,3 @@ module _ {curve words : List ℕ} {p from to next_from next_to least most bits d
           (λ (a : d ≤ e). rw (none e a, and-false (ltb e d)) (sym (and-false (ltb e to))))
           (λ (a : e < d). rw (lt-ltb e d a, lt-ltb e to (omega arith)) refl)
           (le_or_lt d e))
-
-  -- all levels are in it
-  pub gathering_all : to ≤ d → WordFilled curve words p from to next_from next_to least most bits q
-  gathering_all l = record {
-    here = λ k. h.here k ∙ same (level_of from k) _;
-    after = h.after;
-    skipped =
-        let e : d ≡ max from to = omega (arith, h.low, h.high) in
-        rw e at h.skipped;
-  }
-    where
-      same : (e : ℕ) (x : Bool) → (leb from e && (ltb e d && x)) ≡ (leb from e && (ltb e to && x))
-      same e x =
-          ⊎_elim (λ (a : from ≤ to). let s : d ≡ to = omega (arith, h.high) in rw s refl)
-          (λ (a : to < from). let s : d ≡ from = omega (arith, h.low, h.high) in rw s (none_in_run from from e x (le_refl from)) ∙ sym (none_in_run from to e x (omega arith)))
-          (le_or_lt from to)

@@ -5,7 +5,8 @@ use mathlib.Core.Path.{◌≡◌, sym, ap, subst, ◌∙◌}
 use mathlib.Core.List.{List, ◌∷◌}
 use mathlib.Core.Bool.{Bool, true, false, ◌&&◌}
 use lib.ListN.{length, get_or, drop, drop_of_length-le}
-use lib.Seq.{drop-cons}
+use Rattle.std.proofs.lemmas.List.{drop_more}
+use Rattle.std.proofs.lemmas.Bool.{and_parts, and_right as right_no}
 use lib.Dec.{ltb, leb, eqb}
 use native.Mathlib.Nat.{add-zero}
 use native.Mathlib.Numerals.{add-one}
@@ -21,11 +22,6 @@ use Rattle.record.specs.Tests.{is_never_falling}
 use Rattle.record.specs.Reader.{steps_up, LevelsRise, Climbed}
 use Rattle.record.specs.declared.items.Reading.{Reading}
 use Rattle.record.proofs.Fields.{fields_length, field_at}
-use Rattle.record.proofs.Judged.{and_left, and_right, no_right}
-
--- what is left of a list at place i, with the element there
-pub next_at : (xs : List ℕ) (i : ℕ) → i < length xs → drop i xs ≡ get_or xs i 0 ∷ drop (i + 1) xs
-next_at xs i h = rw (add-one, drop-cons xs i 0 h)
 
 -- what `<` and `<=` of levels and luminances say
 pub less_is : (x y : ℕ) → is_lt (nat_cmp x y) ≡ ltb x y
@@ -71,7 +67,7 @@ module _ (n : ℕ) (s : List ℕ) where
 
   -- what is left of the levels, with the one there
   pub next_ddl : (i : ℕ) {r : Reading} → i < n → ReadAt i r → drop i (fields 6 (word 0) n s) ≡ r.ddl.0 ∷ drop (i + 1) (fields 6 (word 0) n s)
-  next_ddl i h e = rw (ddl_at i h e 0) (next_at (fields 6 (word 0) n s) i (omega (arith, fields_length 6 (word 0) n s)))
+  next_ddl i h e = rw (ddl_at i h e 0) (drop_more (fields 6 (word 0) n s) i 0 (omega (arith, fields_length 6 (word 0) n s)))
 
 -- both tests go by what stands from the reading before place i on
 pub record ClimbsSoFar (dd lu : List ℕ) (i : ℕ) : Type 0 where
@@ -92,8 +88,8 @@ kept lu i = leb (get_or lu (i - 1) 0 + 0) (get_or lu i 0)
 module _ {dd lu : List ℕ} {n : ℕ} (dds : length dd ≡ n) (lus : length lu ≡ n) where
   pub climbs_first : 1 ≤ n → ClimbsSoFar dd lu 1
   climbs_first h = record {
-    ddls = rises_first 1 _ _ (next_at dd 0 (omega arith));
-    luminances = rises_first 0 _ _ (next_at lu 0 (omega arith));
+    ddls = rises_first 1 _ _ (drop_more dd 0 0 (omega arith));
+    luminances = rises_first 0 _ _ (drop_more lu 0 0 (omega arith));
   }
 
   module _ {i : ℕ} (h : ClimbsSoFar dd lu i) where
@@ -103,8 +99,8 @@ module _ {dd lu : List ℕ} {n : ℕ} (dds : length dd ≡ n) (lus : length lu �
       climbs_more t =
           let f : i + 1 - 1 ≡ i = omega arith in
           record {
-            ddls = rw f (rises_more h.ddls _ (next_at dd i (omega arith)) (leb-true _ _ (and_left (rising dd i) (kept lu i) (sym e ∙ t))));
-            luminances = rw f (rises_more h.luminances _ (next_at lu i (omega arith)) (leb-true _ _ (and_right (rising dd i) (kept lu i) (sym e ∙ t))));
+            ddls = rw f (rises_more h.ddls _ (drop_more dd i 0 (omega arith)) (leb-true _ _ (and_parts (rising dd i) (kept lu i) (sym e ∙ t)).0));
+            luminances = rw f (rises_more h.luminances _ (drop_more lu i 0 (omega arith)) (leb-true _ _ (and_parts (rising dd i) (kept lu i) (sym e ∙ t)).1));
           }
 
       climbs_not : up ≡ false → climbing dd lu ≡ false
@@ -112,8 +108,8 @@ module _ {dd lu : List ℕ} {n : ℕ} (dds : length dd ≡ n) (lus : length lu �
           by (rising dd i)
           (λ a.
           let b : kept lu i ≡ false = sym (ap (λ (x : Bool). x && kept lu i) a) ∙ sym e ∙ t in
-          no_right (rises_by 1 dd) _ (rises_not h.luminances _ (next_at lu i (omega arith)) (leb-false _ _ b)))
-          (λ a. rw (rises_not h.ddls _ (next_at dd i (omega arith)) (leb-false _ _ a)))
+          right_no (rises_by 1 dd) _ (rises_not h.luminances _ (drop_more lu i 0 (omega arith)) (leb-false _ _ b)))
+          (λ a. rw (rises_not h.ddls _ (drop_more dd i 0 (omega arith)) (leb-false _ _ a)))
 
       -- it ends before the end of the sweep
       pub climbed_part : 1 ≤ i → up ≡ false → Climbed dd lu i

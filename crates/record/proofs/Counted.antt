@@ -1,11 +1,10 @@
 -- What reading one section finds.
 -- Assumes nothing.
-use Prim.Native.Nat.{ℕ, ◌+◌, ◌-◌, ◌*◌, ◌≤◌, ◌<◌}
+use Prim.Native.Nat.{ℕ, ◌+◌, ◌*◌, ◌≤◌, ◌<◌}
 use mathlib.Core.Path.{◌≡◌, sym}
 use mathlib.Core.List.{List}
 use mathlib.Core.Bool.{true, false, false≢true}
-use lib.ListN.{length, take, drop, length-drop}
-use lib.Seq.{take_all}
+use lib.ListN.{length}
 use lib.Dec.{ltb, leb, eqb}
 use native.Mathlib.Nat.{mul-le-mul}
 use native.Mathlib.Omega.{arith}
@@ -46,10 +45,6 @@ narrow Check = omega arith
 -- the items of any count of 16 bits take bytes whose number fits
 pub small : (n w : ℕ) → n < 65536 → w ≤ 6 → n * w ≤ 393216
 small n w p q = omega (arith, mul-le-mul {n₁ = n} {m₁ = w} {n₂ = 65536} {m₂ = 6} (omega arith) q)
-
--- a part that goes to the end
-pub all_after : (n : ℕ) (s : List ℕ) → take (length s - n) (drop n s) ≡ drop n s
-all_after n s = take_all (length s - n) (drop n s) (omega (arith, length-drop n s))
 
 -- ---- what it says of the bytes
 

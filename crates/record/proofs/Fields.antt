@@ -7,10 +7,7 @@ use lib.ListN.{length, get_or, drop}
 use lib.Seq.{drop-drop, get_or-drop}
 use native.Mathlib.Nat.{zero-mul, suc-mul, add_comm, add_assoc, not-suc-le-zero, le_of_suc-le-suc}
 use native.Mathlib.Omega.{arith}
-use Rattle.record.specs.Bytes.{word, long, fields}
-
-pub word_drop : (s : List ℕ) (k i : ℕ) → word i (drop k s) ≡ word (k + i) s
-word_drop s k i = simp (get_or-drop, add_assoc)
+use Rattle.record.specs.Bytes.{long, fields}
 
 pub long_drop : (s : List ℕ) (k i : ℕ) → long i (drop k s) ≡ long (k + i) s
 long_drop s k i = simp (get_or-drop, add_assoc)

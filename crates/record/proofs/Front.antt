@@ -1,12 +1,13 @@
 -- A record has 6,250 bytes at most: how a longer input is read does not depend on what follows its first 6,251 bytes.
 -- Assumes nothing.
-use Prim.Native.Nat.{ℕ, zero, suc, ◌+◌, ◌-◌, ◌*◌, ◌≤◌}
-use mathlib.Core.Path.{◌≡◌, refl, sym, ap, ◌∙◌}
-use mathlib.Core.List.{List, [], ◌∷◌}
+use Prim.Native.Nat.{ℕ, ◌+◌, ◌-◌, ◌*◌, ◌≤◌}
+use mathlib.Core.Path.{◌≡◌, refl, ap}
+use mathlib.Core.List.{List}
 use mathlib.Core.Bool.{true}
 use mathlib.Core.Logic.{⊎_elim}
 use lib.ListN.{length, take, drop, length-drop}
-use lib.Seq.{take_all, take-nil, length-take-le, get_or-take}
+use lib.Seq.{take_all, length-take-le, get_or-take}
+use Rattle.std.proofs.lemmas.List.{drop-take}
 use native.Mathlib.Omega.{arith}
 use borrow.Author.Tests.{le-ltb, eqb-true, leb-true, ne_eqb}
 use Rattle.std.specs.Prelude.{Result, Ok, Err}
@@ -31,12 +32,6 @@ within_most Settings n h = omega (arith, eqb-true n 5 h)
 within_most Lamps n h = omega (arith, leb-true n 8 h)
 within_most Sweep n h = omega (arith, up_to_1024 Sweep n h)
 within_most Check n h = omega (arith, up_to_18 n h)
-
-drop_take : (j m : ℕ) (s : List ℕ) → drop j (take m s) ≡ take (m - j) (drop j s)
-drop_take zero m s = ap (λ (n : ℕ). take n s) (let e : m ≡ m - 0 = omega arith in e)
-drop_take (suc j) zero s = ap (λ (n : ℕ). take n (drop (suc j) s)) (let e : 0 ≡ 0 - suc j = omega arith in e)
-drop_take (suc j) (suc m) [] = sym (take-nil (suc m - suc j))
-drop_take (suc j) (suc m) (x ∷ s) = drop_take j m s ∙ ap (λ (n : ℕ). take n (drop j s)) (let e : m - j ≡ suc m - suc j = omega arith in e)
 
 -- ---- one section, at the front of s and of its first m bytes
 
@@ -70,7 +65,11 @@ module _ (k : Section) (m : ℕ) (s : List ℕ) (h : most k ≤ m) (l : m ≤ le
     where
       found : (x : Result ℕ Refusal) → count_of k s ≡ x → after x (λ n. F n (rest k n (take m s))) ≡ after x (λ n. F n (rest k n s))
       found (Err r) e = refl
-      found (Ok n) e = rw (drop_take (2 + n * width k) m s) (same n (2 + n * width k) (within_most k n (counted k s n e).may))
+      found (Ok n) e =
+          let j = 2 + n * width k in
+          let low : j ≤ most k = within_most k n (counted k s n e).may in
+          let sum : j + (m - j) ≡ m = omega arith in
+          rw (rw sum at (drop-take j (m - j) s)) (same n j low)
 
 -- ---- the sections from the last to the first, with one byte more than they may have
 

@@ -6,13 +6,14 @@ use mathlib.Core.List.{List}
 use mathlib.Core.Bool.{true}
 use lib.ListN.{length, take, drop, length-drop}
 use lib.Seq.{drop-drop}
+use Rattle.std.proofs.lemmas.List.{take_rest}
 use native.Mathlib.Omega.{arith}
-use borrow.Author.Tests.{eq-eqb, ne_eqb, eqb-true, leb-true}
+use borrow.Author.Tests.{eq-eqb, ne_eqb}
 use Rattle.std.specs.Prelude.{Ok, Err}
-use Rattle.laws.proofs.Cases.{is_yes, yes_is}
+use Rattle.laws.proofs.Cases.{yes_is}
 use Rattle.record.specs.Bytes.{word}
 use Rattle.record.specs.declared.Section.{Section}
-use Rattle.record.proofs.Counted.{count_items, all_after, up_to_1024 as most_1024}
+use Rattle.record.proofs.Counted.{count_items}
 use Rattle.record.specs.Sections.{permitted, width, count_of, layout_of, ended, sections}
 use Rattle.record.specs.Tests.{judged, answer_of}
 use Rattle.record.specs.Reader.{values, ddls_of, luminances_of, Taken, ReadFrom}
@@ -21,35 +22,19 @@ use Rattle.record.specs.declared.Refusal.{Refusal}
 use Rattle.record.specs.declared.Refusal.TheVariants.{TrailingBytes}
 use Rattle.record.specs.declared.items.JobRecord.{JobRecord}
 use Rattle.record.proofs.Parts.{counts}
-use Rattle.record.proofs.Placed.{layout_from_lamps, layout_from_sweep, layout_from_check, at_least_2, up_to_18 as most_18}
+use Rattle.record.proofs.Placed.{layout_from_lamps, layout_from_sweep, layout_from_check}
 
 -- a section is taken off as the code does it
 pub taken : (k : Section) (s : List ℕ) {n w m : ℕ} {front found more : List ℕ} → 2 ≤ length s → n ≡ word 0 s → w ≡ width k → permitted k n ≡ true → n * w ≤ length (take (length s - 2) (drop 2 s))
     → front ≡ take (n * w) (take (length s - 2) (drop 2 s)) → more ≡ drop (n * w) (take (length s - 2) (drop 2 s)) → m ≡ n → found ≡ front → Taken k s m found more
 taken k s {n} {w} h e f p l a b c d =
-    let r = all_after 2 s in
+    let r = take_rest s 2 in
     record {
       count = rw c (sym (count_items k s n w h e f p (omega (arith, ap length r, length-drop 2 s))));
       may = rw c (yes_is p);
       items = rw (d, a, r, f, c);
       rest = rw (b, r, f, c) (drop-drop (n * width k) 2 s);
     }
-
--- the permitted counts
-pub five : {s found more : List ℕ} {n : ℕ} → Taken Settings s n found more → n ≡ 5
-five t = eqb-true _ 5 (is_yes _ t.may)
-
-pub up_to_8 : {s found more : List ℕ} {n : ℕ} → Taken Lamps s n found more → n ≤ 8
-up_to_8 t = leb-true _ 8 (is_yes _ t.may)
-
-pub some : {s found more : List ℕ} {n : ℕ} → Taken Sweep s n found more → 2 ≤ n
-some {n = n} t = at_least_2 n (is_yes _ t.may)
-
-pub up_to_1024 : {s found more : List ℕ} {n : ℕ} → Taken Sweep s n found more → n ≤ 1024
-up_to_1024 {n = n} t = most_1024 Sweep n (is_yes _ t.may)
-
-pub up_to_18 : {s found more : List ℕ} {n : ℕ} → Taken Check s n found more → n ≤ 18
-up_to_18 {n = n} t = most_18 n (is_yes _ t.may)
 
 module _ (s : List ℕ) where
   -- a record that cannot be read

@@ -3,7 +3,8 @@
 use Prim.Native.Nat.{zero-le, ℕ, ◌-◌, ◌≤◌}
 use mathlib.Core.Path.{◌≡◌, refl, sym, ap, ◌∙◌}
 use mathlib.Core.List.{List}
-use mathlib.Core.Bool.{Bool, true, false, false≢true, ◌&&◌}
+use mathlib.Core.Bool.{Bool, true, false, ◌&&◌, and-true}
+use Rattle.std.proofs.lemmas.Bool.{and_parts, and_right as right_no}
 use lib.ListN.{length, get_or}
 use lib.Dec.{T, eqb, leb}
 use borrow.Author.Tests.{le-leb}
@@ -26,22 +27,13 @@ refused_by x p q = rw (p, q)
 pub passed_by : {A : Type 0} {t : Bool} (r : Refusal) {x y : Result A Refusal} → t ≡ true → y ≡ x → y ≡ unless t r x
 passed_by r p q = rw (p, q)
 
-pub unless_err : {A : Type 0} (t : Bool) {r e : Refusal} (x : A) → Err e ≡ unless t r (Ok x) → (t ≡ false) × (e ≡ r)
-unless_err true x h = cc h
-unless_err false x h = (refl, cc)
+pub unless_err : {A : Type 0} {t : Bool} {r e : Refusal} (x : A) → Err e ≡ unless t r (Ok x) → (t ≡ false) × (e ≡ r)
+unless_err {t = true} x h = cc h
+unless_err {t = false} x h = (refl, cc)
 
-pub unless_ok : {A : Type 0} (t : Bool) (r : Refusal) {y : A} (x : A) → Ok y ≡ unless t r (Ok x) → (t ≡ true) × (y ≡ x)
-unless_ok true r x h = (refl, cc)
-unless_ok false r x h = cc h
-
--- the settings' test, by its parts
-and_true : (a : Bool) → (a && true) ≡ a
-and_true true = refl
-and_true false = refl
-
-pub no_right : (a b : Bool) → b ≡ false → (a && b) ≡ false
-no_right true b h = h
-no_right false b h = refl
+pub unless_ok : {A : Type 0} {t : Bool} (r : Refusal) {x y : A} → Ok y ≡ unless t r (Ok x) → (t ≡ true) × (y ≡ x)
+unless_ok {t = true} r h = (refl, cc)
+unless_ok {t = false} r h = cc h
 
 -- the five settings, read one by one
 pub record Five (xs : List ℕ) (b m k r w : ℕ) : Type 0 where
@@ -53,16 +45,16 @@ pub record Five (xs : List ℕ) (b m k r w : ℕ) : Type 0 where
 
 pub range_meter : (xs : List ℕ) {m : ℕ} → m ≡ get_or xs 1 0 → within 0 1 m ≡ false → settings_in_range xs ≡ false
 unfolding settings_in_range
-range_meter xs e h = rw (← e, h, no_right (within 8 10 (get_or xs 0 0)) false refl)
+range_meter xs e h = rw (← e, h, right_no (within 8 10 (get_or xs 0 0)) false refl)
 
 pub range_class : (xs : List ℕ) {k : ℕ} → k ≡ get_or xs 2 0 → within 1 2 k ≡ false → settings_in_range xs ≡ false
 unfolding settings_in_range
-range_class xs e h = rw (← e, h, no_right (within 8 10 (get_or xs 0 0) && within 0 1 (get_or xs 1 0)) false refl)
+range_class xs e h = rw (← e, h, right_no (within 8 10 (get_or xs 0 0) && within 0 1 (get_or xs 1 0)) false refl)
 
 module _ {xs : List ℕ} {b m k r w : ℕ} (five : Five xs b m k r w) where
   pub range_others : within 0 1 m ≡ true → within 1 2 k ≡ true → {t : Bool} → t ≡ within 8 10 b → settings_in_range xs ≡ (t && leb r 1000 && leb w 1000)
   unfolding settings_in_range
-  range_others p q {t} d = rw (← five.depth, ← five.meter, ← five.class, ← five.reflectance, ← five.tolerance, p, q, ← d, and_true t, and_true t, le-leb 0 r zero-le, le-leb 0 w zero-le)
+  range_others p q {t} d = rw (← five.depth, ← five.meter, ← five.class, ← five.reflectance, ← five.tolerance, p, q, ← d, and-true t, and-true t, le-leb 0 r zero-le, le-leb 0 w zero-le)
 
   pub settings_by : {x : Meter} {y : Class} → x ≡ meter_of m → y ≡ class_of k
       → record { depth = b; meter = x; class = y; reflectance = record { 0 = r }; tolerance = w } ≡ settings_of xs
@@ -101,14 +93,6 @@ ranges xs t =
       reflectance = leb_yes (and_yes (leb 0 (get_or xs 3 0)) (leb (get_or xs 3 0) 1000) of-r).1;
       tolerance = leb_yes (and_yes (leb 0 (get_or xs 4 0)) (leb (get_or xs 4 0) 1000) of-w).1;
     }
-
-pub and_left : (a b : Bool) → (a && b) ≡ true → a ≡ true
-and_left true b h = refl
-and_left false b h = h
-
-pub and_right : (a b : Bool) → (a && b) ≡ true → b ≡ true
-and_right true b h = h
-and_right false b h = absurd (false≢true h)
 
 exchanged : (a b c : Bool) → (a && b && c) ≡ (a && c && b)
 exchanged false b c = refl
@@ -156,4 +140,4 @@ module _ (st la dd lu : List ℕ) where
 
           pub judged_accepted : (rises_by 1 dd && is_never_falling lu) ≡ true → (lux : Lux) → lux.0 ≡ sum la → Ok (record { settings = job; lamps = lux }) ≡ judged st la dd lu
           unfolding judged
-          judged_accepted l lux s = rw (p, q, spans_is, k, and_left (rises_by 1 dd) (is_never_falling lu) l, and_right (rises_by 1 dd) (is_never_falling lu) l, e) (rw (← s))
+          judged_accepted l lux s = rw (p, q, spans_is, k, (and_parts (rises_by 1 dd) (is_never_falling lu) l).0, (and_parts (rises_by 1 dd) (is_never_falling lu) l).1, e) (rw (← s))

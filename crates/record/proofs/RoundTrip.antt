@@ -18,7 +18,7 @@ use Rattle.record.specs.declared.Refusal.{Refusal}
 use Rattle.record.proofs.Parts.{counts, lists}
 use Rattle.record.proofs.Counted.{count_items, up_to_1024}
 use Rattle.record.proofs.Placed.{layout_from_lamps, layout_from_sweep, layout_from_check}
-use Rattle.record.proofs.Written.{word_back, words_back, longs_back, ddls_back, luminances_back, run16_length, run32_length, run_sweep_length}
+use Rattle.record.proofs.Written.{word_back, run_back, long_back, ddls_back, luminances_back, run_length, run_sweep_length}
 
 -- ---- a section that stands whole at the front
 
@@ -104,19 +104,19 @@ module _ (l : Lists) (w : Writable l) where
 
   settings_whole : Whole Settings (written l) from_lamps
   unfolding written
-  settings_whole = record { count = length l.settings; items = run bytes16 l.settings; may = w.settings_count; all = run16_length l.settings; is = refl }
+  settings_whole = record { count = length l.settings; items = run bytes16 l.settings; may = w.settings_count; all = run_length 2 bytes16 (λ x. refl) l.settings; is = refl }
 
   lamps_whole : Whole Lamps from_lamps from_sweep
-  lamps_whole = record { count = length l.lamps; items = run bytes16 l.lamps; may = w.lamps_count; all = run16_length l.lamps; is = refl }
+  lamps_whole = record { count = length l.lamps; items = run bytes16 l.lamps; may = w.lamps_count; all = run_length 2 bytes16 (λ x. refl) l.lamps; is = refl }
 
   sweep_whole : Whole Sweep from_sweep from_check
   sweep_whole = record { count = length l.ddls; items = run_sweep l.ddls l.luminances; may = w.sweep_count; all = run_sweep_length l.ddls l.luminances w.pairs; is = refl }
 
   check_whole : Whole Check from_check []
-  check_whole = record { count = length l.check; items = run bytes32 l.check; may = w.check_count; all = run32_length l.check; is = refl }
+  check_whole = record { count = length l.check; items = run bytes32 l.check; may = w.check_count; all = run_length 4 bytes32 (λ x. refl) l.check; is = refl }
 
   pub round_trip : sections (written l) ≡ Ok l
   unfolding settings_whole lamps_whole sweep_whole check_whole
   round_trip =
       whole_sections settings_whole lamps_whole sweep_whole check_whole
-      ∙ rw (words_back l.settings w.settings_fit, words_back l.lamps w.lamps_fit, ddls_back l.ddls l.luminances w.pairs w.ddls_fit, luminances_back l.ddls l.luminances w.pairs w.luminances_fit, longs_back l.check w.check_fit)
+      ∙ rw (run_back 65535 2 (word 0) bytes16 (λ x. refl) (λ x h s. word_back x h) l.settings w.settings_fit, run_back 65535 2 (word 0) bytes16 (λ x. refl) (λ x h s. word_back x h) l.lamps w.lamps_fit, ddls_back l.ddls l.luminances w.pairs w.ddls_fit, luminances_back l.ddls l.luminances w.pairs w.luminances_fit, run_back 4294967295 4 (long 0) bytes32 (λ x. refl) (λ x h s. long_back x h) l.check w.check_fit)

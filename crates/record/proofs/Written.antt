@@ -1,10 +1,10 @@
 -- Numbers and items, written and read, both ways.
 -- Assumes nothing.
 use Prim.Native.Nat.{ℕ, zero, suc, ◌+◌, ◌*◌, ◌/◌, ◌%◌, ◌≤◌}
-use mathlib.Core.Path.{◌≡◌, refl, ap, ◌∙◌}
+use mathlib.Core.Path.{◌≡◌, refl, sym, ap, ◌∙◌}
 use mathlib.Core.List.{List, [], ◌∷◌, ◌++◌}
-use lib.ListN.{length, get_or, take, drop, length-drop}
-use lib.Seq.{drop-drop}
+use lib.ListN.{length, get_or, take, drop, length-drop, length-append}
+use lib.Seq.{drop-drop, drop_at}
 use lib.Dec.{T, leb}
 use native.Mathlib.Nat.{div-add-mod', add-mul-mod_self_left, add-mul-div_left, suc-mul, zero-mul}
 use native.Mathlib.Omega.{arith}
@@ -23,7 +23,7 @@ word_back x h = omega arith
 low_word : (x : ℕ) → x % 256 + 256 * (x / 256 % 256) ≡ x % 65536
 low_word x = omega arith
 
-long_back : (x : ℕ) → x ≤ 4294967295 → x % 256 + 256 * (x / 256 % 256) + 65536 * (x / 65536 % 256 + 256 * (x / 65536 / 256 % 256)) ≡ x
+pub long_back : (x : ℕ) → x ≤ 4294967295 → x % 256 + 256 * (x / 256 % 256) + 65536 * (x / 65536 % 256 + 256 * (x / 65536 / 256 % 256)) ≡ x
 long_back x h =
     let l : x / 65536 ≤ 65535 = omega arith in
     omega (arith, low_word x, word_back (x / 65536) l, div-add-mod' x 65536)
@@ -47,15 +47,18 @@ long_again x y z w h i j k =
 
 -- ---- items that are written and then read
 
-pub words_back : (xs : List ℕ) → T (all_up_to 65535 xs) → fields 2 (word 0) (length xs) (run bytes16 xs) ≡ xs
-unfolding fields run
-words_back [] t = refl
-words_back (x ∷ xs) t = rw (word_back x (up_to_first 65535 x xs t), words_back xs (up_to_rest 65535 x xs t))
+-- numbers of one width
+module _ (m w : ℕ) (f : List ℕ → ℕ) (g : ℕ → List ℕ) (size : (x : ℕ) → length (g x) ≡ w) where
+  pub run_back : ((x : ℕ) → x ≤ m → (s : List ℕ) → f (g x ++ s) ≡ x) → (xs : List ℕ) → T (all_up_to m xs) → fields w f (length xs) (run g xs) ≡ xs
+  unfolding fields run
+  run_back back [] t = refl
+  run_back back (x ∷ xs) t =
+      rw (back x (up_to_first m x xs t) (run g xs), drop_at (g x) (run g xs) w (size x), run_back back xs (up_to_rest m x xs t))
 
-pub longs_back : (xs : List ℕ) → T (all_up_to 4294967295 xs) → fields 4 (long 0) (length xs) (run bytes32 xs) ≡ xs
-unfolding fields run
-longs_back [] t = refl
-longs_back (x ∷ xs) t = rw (long_back x (up_to_first 4294967295 x xs t), longs_back xs (up_to_rest 4294967295 x xs t))
+pub run_length : (w : ℕ) (g : ℕ → List ℕ) → ((x : ℕ) → length (g x) ≡ w) → (xs : List ℕ) → length (run g xs) ≡ length xs * w
+unfolding run
+run_length w g size [] = sym (zero-mul w)
+run_length w g size (x ∷ xs) = omega (arith, size x, length-append (g x) (run g xs), run_length w g size xs, suc-mul (length xs) w)
 
 pub ddls_back : (ds ls : List ℕ) → length ls ≡ length ds → T (all_up_to 65535 ds) → fields 6 (word 0) (length ds) (run_sweep ds ls) ≡ ds
 unfolding fields run_sweep
@@ -71,16 +74,6 @@ luminances_back (d ∷ ds) [] e t = absurd (omega arith)
 luminances_back (d ∷ ds) (l ∷ ls) e t = rw (long_back l (up_to_first 4294967295 l ls t), luminances_back ds ls (omega arith) (up_to_rest 4294967295 l ls t))
 
 -- ---- how long they are
-
-pub run16_length : (xs : List ℕ) → length (run bytes16 xs) ≡ length xs * 2
-unfolding run
-run16_length [] = refl
-run16_length (x ∷ xs) = omega (arith, run16_length xs)
-
-pub run32_length : (xs : List ℕ) → length (run bytes32 xs) ≡ length xs * 4
-unfolding run
-run32_length [] = refl
-run32_length (x ∷ xs) = omega (arith, run32_length xs)
 
 pub run_sweep_length : (ds ls : List ℕ) → length ls ≡ length ds → length (run_sweep ds ls) ≡ length ds * 6
 unfolding run_sweep

@@ -7,6 +7,7 @@ use native.Mathlib.Omega.{arith}
 use lib.ListN.{length, get_or}
 use Rattle.laws.specs.Rises.{NeverFalls}
 use Rattle.laws.proofs.Numbers.{times_next, quotient_mono, Grows, grows_by}
+use Rattle.laws.proofs.Rises.{tab_keeps}
 use Rattle.laws.proofs.Fill.{length_tab, get_or_tab}
 use Rattle.gsdf.specs.DisplayFunction.{luminance_of}
 use Rattle.gsdf.proofs.Laws.{luminance_low, luminance_high, luminance_mono, luminance_strict}
@@ -94,8 +95,5 @@ module _ (low range top : ℕ) where
           omega arith
 
     pub targets_keep : NeverFalls (targets_of low range top)
-    targets_keep = record {
-      keeps = λ i k ik l.
-          let kt : k ≤ top = omega (arith, targets_length) in
-          rw (targets_at i 0 (omega arith), targets_at k 0 kt) (target_mono i k ik kt);
-    }
+    unfolding targets_of
+    targets_keep = tab_keeps _ (top + 1) (λ i k ik l. target_mono i k ik (omega arith))

@@ -19,22 +19,18 @@ index_range-indices-requires c =
 
 pub returns-then-is_too_narrow : goal.returns-then-is_too_narrow
 returns-then-is_too_narrow c =
-    let is = rw (c.shown-black.ensures, c.shown-white.ensures) at c.index_range-indices.ensures in
-    found_narrow _ c.some_outside.ensures c.if-some_outside.false is c.is_too_narrow.ensures _ _ c.if-is_too_narrow.true
+    found_narrow _ c.some_outside.ensures c.if-some_outside.false c.shown-black.ensures c.shown-white.ensures c.index_range-indices.ensures c.is_too_narrow.ensures _ _ c.if-is_too_narrow.true
 
 pub fill_deviations-requires : goal.fill_deviations-requires
 fill_deviations-requires c =
-    let is = rw (c.shown-black.ensures, c.shown-white.ensures) at c.index_range-indices.ensures in
-    (c.requires.fits, found_range _ c.some_outside.ensures c.if-some_outside.false is c.is_too_narrow.ensures c.if-is_too_narrow.false)
+    (c.requires.fits, found_range _ c.some_outside.ensures c.if-some_outside.false c.shown-black.ensures c.shown-white.ensures c.index_range-indices.ensures c.is_too_narrow.ensures c.if-is_too_narrow.false)
 
 pub returns-then-fill_deviations : goal.returns-then-fill_deviations
 returns-then-fill_deviations c =
-    let is = rw (c.shown-black.ensures, c.shown-white.ensures) at c.index_range-indices.ensures in
-    judged _ c.some_outside.ensures c.if-some_outside.false is c.is_too_narrow.ensures c.if-is_too_narrow.false _ c.fill_deviations.ensures
+    judged _ c.some_outside.ensures c.if-some_outside.false c.shown-black.ensures c.shown-white.ensures c.index_range-indices.ensures c.is_too_narrow.ensures c.if-is_too_narrow.false _ c.fill_deviations.ensures
     (rw c.if-fill_deviations.true)
 
 pub returns-else-fill_deviations : goal.returns-else-fill_deviations
 returns-else-fill_deviations c =
-    let is = rw (c.shown-black.ensures, c.shown-white.ensures) at c.index_range-indices.ensures in
-    judged _ c.some_outside.ensures c.if-some_outside.false is c.is_too_narrow.ensures c.if-is_too_narrow.false _ c.fill_deviations.ensures
+    judged _ c.some_outside.ensures c.if-some_outside.false c.shown-black.ensures c.shown-white.ensures c.index_range-indices.ensures c.is_too_narrow.ensures c.if-is_too_narrow.false _ c.fill_deviations.ensures
     (rw c.if-fill_deviations.false)

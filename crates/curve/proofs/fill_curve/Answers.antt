@@ -1,22 +1,7 @@
 -- The loop goes from reading to reading: its invariant is the record `Traced`. Assumes nothing.
 use Rattle.std.proofs.Common.{arith, ◌∙◌, length-set}
-use Rattle.curve.proofs.Walk.{reading_fits, traced_none, traced_top, no_more, follows, levels_between, traced_more, traced_all}
+use Rattle.curve.proofs.Walk.{traced_none, traced_top, follows, levels_between, traced_more, traced_all}
 use Rattle.curve.proofs.fill_curve.Goals as goal
-
-pub lit_reading-last-requires : goal.lit_reading-last-requires
-lit_reading-last-requires g c =
-    let sweep = c.requires.sweep in
-    record {
-      inside = (omega (arith, sweep.some), omega (arith, sweep.some, sweep.pairs));
-      fits = reading_fits c.requires _ (omega arith) (omega (arith, sweep.some));
-    }
-
-pub lit_reading-next-requires : goal.lit_reading-next-requires
-lit_reading-next-requires g c =
-    record {
-      inside = (omega (arith, c.len-i-end.ensures), omega (arith, c.len-i-end.ensures, c.requires.sweep.pairs));
-      fits = reading_fits c.requires _ (omega arith) (omega (arith, c.len-i-end.ensures));
-    }
 
 pub loop-i-init : goal.loop-i-init
 loop-i-init g c = traced_none c.requires c.lit_reading-last.ensures
@@ -24,23 +9,10 @@ loop-i-init g c = traced_none c.requires c.lit_reading-last.ensures
 pub bounds-curve-from : goal.bounds-curve-from
 bounds-curve-from g c = omega (arith, traced_top c.requires c.loop-i.invariant, c.requires.fits, c.loop-i.invariant.filled.len)
 
-pub slice_bounds-fill_between-count : goal.slice_bounds-fill_between-count
-slice_bounds-fill_between-count g c =
-    omega (arith, (follows c.requires c.loop-i.invariant c.lit_reading-next.ensures (omega arith) (omega (arith, c.len-i-end.ensures))).above)
-
-pub slice_bounds-fill_between-start : goal.slice_bounds-fill_between-start
-slice_bounds-fill_between-start g c =
-    omega (arith, (follows c.requires c.loop-i.invariant c.lit_reading-next.ensures (omega arith) (omega (arith, c.len-i-end.ensures))).above)
-
 pub slice_bounds-fill_between-end : goal.slice_bounds-fill_between-end
 slice_bounds-fill_between-end g c =
     let next = follows c.requires c.loop-i.invariant c.lit_reading-next.ensures (omega arith) (omega (arith, c.len-i-end.ensures)) in
     omega (arith, length-set c.loop-i.curve c.from-from.result c.loop-i.last.luminance.0, next.at_most, c.requires.fits, c.loop-i.invariant.filled.len)
-
-pub fill_between-requires : goal.fill_between-requires
-fill_between-requires g c =
-    let next = follows c.requires c.loop-i.invariant c.lit_reading-next.ensures (omega arith) (omega (arith, c.len-i-end.ensures)) in
-    rw (c.from-from.ensures, c.from-to.ensures) (next.keeps, no_more _ (omega (arith, next.at_most, c.requires.levels)))
 
 pub loop-i-preserved : goal.loop-i-preserved
 loop-i-preserved g c =

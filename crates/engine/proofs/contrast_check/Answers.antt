@@ -1,7 +1,7 @@
 use mathlib.Core.Path.{refl}
 use native.Mathlib.Omega.{arith}
-use Rattle.std.proofs.lemmas.Result.{err_from_is_err_and}
-use Rattle.engine.proofs.Check.{check_short, check_back, check_none, all_read, check_made}
+use Rattle.laws.proofs.Cases.{err_returned}
+use Rattle.engine.proofs.Check.{check_short, check_back, check_none, check_made}
 use Rattle.engine.proofs.contrast_check.Goals as goal
 
 pub returns-then-deviations-lt17 : goal.returns-then-deviations-lt17
@@ -9,19 +9,14 @@ returns-then-deviations-lt17 c = check_short _ _ (omega arith)
 
 pub returns-in_err-tested : goal.returns-in_err-tested
 returns-in_err-tested c =
-    let p = err_from_is_err_and c.from_residual.result c.from_residual.ensures.1 in
-    rw (p.1, p.2) (check_back _ _ (omega arith) _ c.in_err-tested.ensures)
+    rw (err_returned c.from_residual.ensures.1) (check_back _ _ (omega arith) _ c.in_err-tested.ensures)
 
 pub returns-then-patches-eq0 : goal.returns-then-patches-eq0
 returns-then-patches-eq0 c = check_none _ _ (omega arith) c.in_ok-tested.ensures (omega arith)
 
-pub fill-requires : goal.fill-requires
-fill-requires c = omega (arith, all_read c.in_ok-tested.ensures (omega arith))
-
 pub returns-in_err-verdict : goal.returns-in_err-verdict
 returns-in_err-verdict c =
-    let p = err_from_is_err_and c.from_residual-in_err-verdict.result c.from_residual-in_err-verdict.ensures.1 in
-    rw (p.1, p.2) (check_made _ _ (omega arith) c.in_ok-tested.ensures _ (omega arith) refl c.fill.ensures c.into-limit.ensures c.check.ensures (rw c.in_err-verdict.was))
+    rw (err_returned c.from_residual-in_err-verdict.ensures.1) (check_made _ _ (omega arith) c.in_ok-tested.ensures _ (omega arith) refl c.fill.ensures c.into-limit.ensures c.check.ensures (rw c.in_err-verdict.was))
 
 pub returns : goal.returns
 returns c = check_made _ _ (omega arith) c.in_ok-tested.ensures _ (omega arith) refl c.fill.ensures c.into-limit.ensures c.check.ensures (rw c.in_ok-verdict.was)

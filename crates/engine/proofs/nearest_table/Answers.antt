@@ -1,7 +1,5 @@
-use mathlib.Core.Path.{sym}
 use native.Mathlib.Omega.{arith}
-use lib.Seq.{length-take-le}
-use Rattle.std.proofs.lemmas.Result.{err_from_is_err_and}
+use Rattle.laws.proofs.Cases.{err_returned}
 use Rattle.record.proofs.Climbing.{luminance_at}
 use Rattle.engine.proofs.Reading.{mark_is}
 use Rattle.engine.proofs.Nearest.{too_short, back, fillable, filled}
@@ -12,17 +10,10 @@ returns-then-table-lt256 c = too_short _ _ (omega arith)
 
 pub returns-in_err-tested : goal.returns-in_err-tested
 returns-in_err-tested c =
-    let p = err_from_is_err_and c.from_residual.result c.from_residual.ensures.1 in
-    rw (p.1, p.2) (back _ _ (omega arith) _ c.in_err-tested.ensures)
-
-pub slice_bounds-fill_table-end : goal.slice_bounds-fill_table-end
-slice_bounds-fill_table-end c = sym (length-take-le _ _ (c.draw-levels.ensures _ c.in_ok-tested.ensures).fits)
+    rw (err_returned c.from_residual.ensures.1) (back _ _ (omega arith) _ c.in_err-tested.ensures)
 
 pub fill_table-error-requires : goal.fill_table-error-requires
 fill_table-error-requires c = fillable _ _ (omega (arith, c.if-table-lt256.false)) (c.draw-levels.ensures _ c.in_ok-tested.ensures)
-
-pub draw-levels-requires : goal.draw-levels-requires
-draw-levels-requires c = (_, c.in_ok-tested.ensures)
 
 pub returns : goal.returns
 returns c = filled _ _ (omega (arith, c.if-table-lt256.false)) (c.draw-levels.ensures _ c.in_ok-tested.ensures) _ _ (mark_is c.in_ok-tested.ensures (luminance_at _ _ 0 (omega (arith, c.in_ok-tested.tested.found.some)) c.get-first.ensures 0) c.room_mark-mark.ensures) c.fill_table-error.ensures

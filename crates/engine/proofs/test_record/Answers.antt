@@ -1,30 +1,27 @@
 use Prim.Native.Nat.{◌-◌}
 use native.Mathlib.Omega.{arith}
-use Rattle.std.proofs.lemmas.Result.{err_from_is_err_and}
+use Rattle.laws.proofs.Cases.{err_returned}
 use Rattle.record.proofs.Climbing.{luminance_at}
 use Rattle.engine.proofs.Reading.{unread, unfit, in_order, sent_back, passed_tests}
 use Rattle.engine.proofs.test_record.Goals as goal
 
 pub returns-in_err-found : goal.returns-in_err-found
 returns-in_err-found c =
-    let p = err_from_is_err_and c.from_residual.result c.from_residual.ensures.1 in
-    rw (p.1, p.2) (unread c.in_err-found.ensures)
+    rw (err_returned c.from_residual.ensures.1) (unread c.in_err-found.ensures)
 
 pub returns-in_err-job : goal.returns-in_err-job
 returns-in_err-job c =
-    let p = err_from_is_err_and c.from_residual-in_err-job.result c.from_residual-in_err-job.ensures.1 in
-    rw (p.1, p.2) (unfit c.in_ok-found.ensures _ c.in_err-job.was)
+    rw (err_returned c.from_residual-in_err-job.ensures.1) (unfit c.in_ok-found.ensures _ c.in_err-job.was)
 
 pub test_range-requires : goal.test_range-requires
 test_range-requires c = in_order c.in_ok-found.ensures _ c.in_ok-job.was _ c.get-first.ensures c.get-last.ensures (omega (arith, c.in_ok-found.found.some, c.len.ensures))
 
 pub returns-in_err-indices : goal.returns-in_err-indices
 returns-in_err-indices c =
-    let p = err_from_is_err_and c.from_residual-in_err-indices.result c.from_residual-in_err-indices.ensures.1 in
     let some = c.in_ok-found.found.some in
     let first = luminance_at _ _ 0 (omega (arith, some)) c.get-first.ensures 0 in
     let last = luminance_at _ _ (c.len.result - 1) (omega (arith, some, c.len.ensures)) c.get-last.ensures 0 in
-    rw (p.1, p.2) (sent_back c.in_ok-found.ensures _ c.in_ok-job.was c.len.ensures first last c.light_of-light.ensures c.test_range.ensures _ c.in_err-indices.was)
+    rw (err_returned c.from_residual-in_err-indices.ensures.1) (sent_back c.in_ok-found.ensures _ c.in_ok-job.was c.len.ensures first last c.light_of-light.ensures c.test_range.ensures _ c.in_err-indices.was)
 
 pub returns : goal.returns
 returns c =

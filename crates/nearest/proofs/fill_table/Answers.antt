@@ -1,13 +1,10 @@
 -- The loop's invariant is the record `Filling`. Assumes nothing.
 use Rattle.std.proofs.Common.{arith, rules}
-use Rattle.nearest.proofs.Filling.{filling_none, not_past_next, filling_more, filling_all}
+use Rattle.nearest.proofs.Filling.{filling_none, filling_more, filling_all}
 use Rattle.nearest.proofs.fill_table.Goals as goal
 
 pub loop-p-init : goal.loop-p-init
 loop-p-init c = filling_none _ _ _ c.start-place.ensures
-
-pub advance-place-requires : goal.advance-place-requires
-advance-place-requires c = not_past_next c.loop-p.invariant c.requires (omega arith)
 
 pub loop-p-preserved : goal.loop-p-preserved
 loop-p-preserved c =

@@ -1,14 +1,10 @@
 -- The loop's invariant is the record `Filling`. Assumes nothing.
 use native.Mathlib.Omega.{arith}
-use Rattle.reach.proofs.Filling.{filling_none, filling_more, asks_kept}
+use Rattle.reach.proofs.Filling.{filling_none, filling_more}
 use Rattle.reach.proofs.fill_row.Goals as goal
 
 pub loop-i-init : goal.loop-i-init
 loop-i-init c = filling_none _ _ _ _ _ _ _ _ _
-
-pub fill_word-word-requires : goal.fill_word-word-requires
-fill_word-word-requires c =
-    let at = c in (asks_kept at.requires at.loop-i.invariant.filled.kept (omega arith), omega arith)
 
 pub loop-i-preserved : goal.loop-i-preserved
 loop-i-preserved c =

@@ -2,8 +2,11 @@
 use mathlib.Core.Path.{sym, ap, ◌∙◌}
 use Prim.Native.Nat.{ℕ}
 use lib.Dec.{eqb}
-use Rattle.reach.proofs.Bits.{test_digit, place_bit}
+use Rattle.std.proofs.lemmas.Nat.Bits.{shr_and_one}
+use Rattle.reach.specs.Bits.{digit}
+use Rattle.reach.proofs.Bits.{place_bit}
 use Rattle.reach.proofs.test.Goals as goal
 
 pub returns : goal.returns
-returns c = ap (λ (x : ℕ). eqb x 1) (test_digit _ _) ∙ sym (place_bit _ _ _)
+unfolding digit
+returns c = ap (λ (x : ℕ). eqb x 1) (shr_and_one _ _) ∙ sym (place_bit _ _ _)

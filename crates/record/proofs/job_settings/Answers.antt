@@ -1,6 +1,6 @@
 use Rattle.std.proofs.Common.{ℕ, Bool, false, List, drop, ◌*◌, ◌≡◌, sym, refl, ◌∙◌, arith}
 use Rattle.std.proofs.lemmas.Grind.{common_steps}
-use Rattle.std.proofs.lemmas.Result.{err_from_is_err_and}
+use Rattle.laws.proofs.Cases.{err_returned}
 use Rattle.record.specs.declared.Refusal.TheVariants.{OutOfRange}
 use Rattle.record.specs.Bytes.{word, fields}
 use Rattle.record.specs.Tests.{within}
@@ -29,28 +29,26 @@ five_at n s h b m k r w = record {
 
 pub returns-in_err-meter : goal.returns-in_err-meter
 returns-in_err-meter c =
-    let p = err_from_is_err_and c.from_residual.result c.from_residual.ensures.1 in
-    let u = unless_err (within 0 1 c.get.result) _ c.in_err-meter.ensures in
-    rw (p.1, p.2) (refused_by _ (range_meter _ (c.get.ensures ∙ sym (field_at 2 (word 0) _ _ 1 0 (omega arith))) u.0) u.1)
+    let u = unless_err _ c.in_err-meter.ensures in
+    rw (err_returned c.from_residual.ensures.1) (refused_by _ (range_meter _ (c.get.ensures ∙ sym (field_at 2 (word 0) _ _ 1 0 (omega arith))) u.0) u.1)
 
 pub returns-in_err-class : goal.returns-in_err-class
 returns-in_err-class c =
-    let p = err_from_is_err_and c.from_residual-in_err-class.result c.from_residual-in_err-class.ensures.1 in
-    let u = unless_err (within 1 2 c.get-2.result) _ c.in_err-class.ensures in
-    rw (p.1, p.2) (refused_by _ (range_class _ (c.get-2.ensures ∙ sym (field_at 2 (word 0) _ _ 2 0 (omega arith))) u.0) u.1)
+    let u = unless_err _ c.in_err-class.ensures in
+    rw (err_returned c.from_residual-in_err-class.ensures.1) (refused_by _ (range_class _ (c.get-2.ensures ∙ sym (field_at 2 (word 0) _ _ 2 0 (omega arith))) u.0) u.1)
 
 pub returns-then-not-in_range : goal.returns-then-not-in_range
 returns-then-not-in_range c =
     let five = five_at c.args.settings.now.count c.args.settings.now.bytes.now c.requires c.get-depth.ensures c.get.ensures c.get-2.ensures c.get-reflectance.ensures c.get-tolerance.ensures in
     let d = contains_within c.new.result 8 10 c.get-depth.result c.contains.ensures.value c.new.ensures.start c.new.ensures.end c.new.ensures.exhausted in
-    let m = unless_ok (within 0 1 c.get.result) OutOfRange _ c.in_ok-meter.ensures in
-    let k = unless_ok (within 1 2 c.get-2.result) OutOfRange _ c.in_ok-class.ensures in
+    let m = unless_ok OutOfRange c.in_ok-meter.ensures in
+    let k = unless_ok OutOfRange c.in_ok-class.ensures in
     refused_by _ (range_others five m.0 k.0 d ∙ c.if-not-in_range.true) refl
 
 pub returns : goal.returns
 returns c =
     let five = five_at c.args.settings.now.count c.args.settings.now.bytes.now c.requires c.get-depth.ensures c.get.ensures c.get-2.ensures c.get-reflectance.ensures c.get-tolerance.ensures in
     let d = contains_within c.new.result 8 10 c.get-depth.result c.contains.ensures.value c.new.ensures.start c.new.ensures.end c.new.ensures.exhausted in
-    let m = unless_ok (within 0 1 c.get.result) OutOfRange _ c.in_ok-meter.ensures in
-    let k = unless_ok (within 1 2 c.get-2.result) OutOfRange _ c.in_ok-class.ensures in
+    let m = unless_ok OutOfRange c.in_ok-meter.ensures in
+    let k = unless_ok OutOfRange c.in_ok-class.ensures in
     passed_by OutOfRange (range_others five m.0 k.0 d ∙ c.if-not-in_range.false) (rw (settings_by five m.1 k.1))

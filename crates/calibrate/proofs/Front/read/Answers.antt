@@ -30,7 +30,3 @@ loop-self-preserved g c =
           (take_written before.size room c.in_ok-n.n before.bytes c.read.new.buf (omega (arith, c.loop-self.invariant.fits, c.loop-self.invariant.whole)) read)
           (Consumes-trans _ _ _ _ _ c.loop-self.invariant.taken c.in_ok-n.ensures.bytes.0);
     }
-
-pub returns-after-loop-self-clause-whole : goal.returns-after-loop-self-clause-whole
-returns-after-loop-self-clause-whole g c =
-    λ short. absurd (omega (arith, short, length-take c.loop-self.self-inside.size c.loop-self.self-inside.bytes, c.loop-self.invariant.whole, c.loop-self-test.false))

@@ -1,7 +1,7 @@
 -- One walk over the P-values. Assumes nothing.
 use Prim.Native.Nat.{◌+◌}
 use native.Mathlib.Omega.{arith}
-use Rattle.even.proofs.Bound.{next_value, found_none, from_fits, to_fits, finding_first, level, run_on, next_level, climbs, finding_more, found_all}
+use Rattle.even.proofs.Bound.{next_value, level, found_none, to_fits, finding_first, run_on, climbs, finding_more, found_all}
 use Rattle.even.proofs.Problem.find_runs.Goals as goal
 
 pub returns-in_err-run : goal.returns-in_err-run
@@ -13,13 +13,13 @@ pub loop-p-init : goal.loop-p-init
 loop-p-init c = finding_first c.args.self.now.workable c.requires c.in_ok-run.ensures
 
 pub overflow_cast-starts : goal.overflow_cast-starts
-overflow_cast-starts c = omega (arith, from_fits c.args.self.now.workable c.requires 0 c.in_ok-run.ensures)
+overflow_cast-starts c = omega (arith, level c.in_ok-run.ensures, c.args.self.now.workable.levels)
 
 pub overflow_cast-ends : goal.overflow_cast-ends
 overflow_cast-ends c = omega (arith, to_fits c.args.self.now.workable c.requires 0 c.in_ok-run.ensures)
 
 pub overflow_cast-starts-in-loop-p : goal.overflow_cast-starts-in-loop-p
-overflow_cast-starts-in-loop-p c = omega (arith, from_fits c.args.self.now.workable c.requires (c.loop-p.p + 1) c.in_ok-next.ensures)
+overflow_cast-starts-in-loop-p c = omega (arith, level c.in_ok-next.ensures, c.args.self.now.workable.levels)
 
 pub overflow_cast-ends-in-loop-p : goal.overflow_cast-ends-in-loop-p
 overflow_cast-ends-in-loop-p c = omega (arith, to_fits c.args.self.now.workable c.requires (c.loop-p.p + 1) c.in_ok-next.ensures)
@@ -33,20 +33,16 @@ returns-in_err-next c =
     rw c.from_residual-in_err-next.ensures (found_none ok (c.loop-p.p + 1) _ _ (next_value ok _ c.loop-p-test.true) c.in_err-next.ensures)
 
 pub offset_bounds-self-next : goal.offset_bounds-self-next
-offset_bounds-self-next c =
-    let ok = c.args.self.now.workable in
-    omega (arith, next_level ok c.requires c.loop-p.invariant c.loop-p-test.true c.in_ok-next.ensures, ok.levels)
+offset_bounds-self-next c = omega (arith, level c.in_ok-next.ensures, c.args.self.now.workable.levels)
 
 pub bounds-self-next : goal.bounds-self-next
-bounds-self-next c = next_level c.args.self.now.workable c.requires c.loop-p.invariant c.loop-p-test.true c.in_ok-next.ensures
+bounds-self-next c = level c.in_ok-next.ensures
 
 pub offset_bounds-self-run : goal.offset_bounds-self-run
-offset_bounds-self-run c =
-    let ok = c.args.self.now.workable in
-    omega (arith, level ok c.requires c.loop-p.invariant, ok.levels)
+offset_bounds-self-run c = omega (arith, level c.loop-p.invariant.is, c.args.self.now.workable.levels)
 
 pub bounds-self-run : goal.bounds-self-run
-bounds-self-run c = level c.args.self.now.workable c.requires c.loop-p.invariant
+bounds-self-run c = level c.loop-p.invariant.is
 
 pub overflow_sub-f : goal.overflow_sub-f
 overflow_sub-f c = climbs c.args.self.now.workable c.requires c.loop-p.invariant c.loop-p-test.true c.in_ok-next.ensures

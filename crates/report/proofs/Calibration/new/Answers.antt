@@ -1,23 +1,20 @@
 -- The first refusal is returned. Assumes nothing.
-use Rattle.std.proofs.lemmas.Result.{err_from_is_err_and}
+use Rattle.laws.proofs.Cases.{err_returned}
 use Rattle.report.specs.Report.{entries}
 use Rattle.report.proofs.Reporting.{nearest_refuses, even_refuses, check_refuses, all_made, kept}
 use Rattle.report.proofs.Calibration.new.Goals as goal
 
 pub returns-in_err-figures-clause-refusal : goal.returns-in_err-figures-clause-refusal
 returns-in_err-figures-clause-refusal c =
-    let p = err_from_is_err_and c.from_residual.result c.from_residual.ensures.1 in
-    rw (p.1, p.2) (nearest_refuses _ _ c.in_err-figures.ensures.answers)
+    rw (err_returned c.from_residual.ensures.1) (nearest_refuses _ _ c.in_err-figures.ensures.answers)
 
 pub returns-in_err-made-clause-refusal : goal.returns-in_err-made-clause-refusal
 returns-in_err-made-clause-refusal c =
-    let p = err_from_is_err_and c.from_residual-in_err-made.result c.from_residual-in_err-made.ensures.1 in
-    rw (p.1, p.2) (even_refuses _ _ c.in_ok-figures.ensures.answers c.in_err-made.ensures.answers)
+    rw (err_returned c.from_residual-in_err-made.ensures.1) (even_refuses _ _ c.in_ok-figures.ensures.answers c.in_err-made.ensures.answers)
 
 pub returns-in_err-check-clause-refusal : goal.returns-in_err-check-clause-refusal
 returns-in_err-check-clause-refusal c =
-    let p = err_from_is_err_and c.from_residual-in_err-check.result c.from_residual-in_err-check.ensures.1 in
-    rw (p.1, p.2) (check_refuses _ _ c.in_ok-figures.ensures.answers c.in_ok-made.ensures.answers c.in_err-check.ensures.answers)
+    rw (err_returned c.from_residual-in_err-check.ensures.1) (check_refuses _ _ c.in_ok-figures.ensures.answers c.in_ok-made.ensures.answers c.in_err-check.ensures.answers)
 
 pub returns-clause-lines : goal.returns-clause-lines
 unfolding entries
