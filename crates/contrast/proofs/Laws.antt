@@ -1,21 +1,17 @@
 -- The laws of the contrast check: what tests 12 and 13 let through, the expected luminances, and the deviations.
 -- Assumes nothing.
-use mathlib.Core.Path.{◌≡◌, refl, sym, ◌∙◌}
-use mathlib.Core.Bool.{true, false, ◌||◌}
-use mathlib.Core.Logic.{⊎_elim}
-use Prim.Native.Nat.{ℕ, ◌+◌, ◌-◌, ◌*◌, ◌≤◌, ◌<◌}
+use mathlib.Core.Path.{◌≡◌, refl}
+use mathlib.Core.Bool.{false, ◌||◌}
+use Prim.Native.Nat.{ℕ, ◌+◌, ◌*◌, ◌≤◌, ◌<◌}
 use native.Mathlib.Omega.{arith}
 use lib.IntN.{pos}
 use lib.ListN.{length, get_or}
 use mir.Syntax.{w32}
 use mir.Val.{SFits}
-use mir.Facts.{or_no}
-use borrow.Author.Tests.{le-ltb, lt-ltb}
-use Rattle.laws.proofs.Cases.{is_no, yes_is, no_is, le_or_lt}
+use Rattle.std.proofs.lemmas.Int.{ints}
 use Rattle.laws.proofs.Search.{none_of}
 use Rattle.laws.proofs.Fill.{length_tab, get_or_tab}
-use Rattle.laws.proofs.Signed.{minus_below, minus_not_below}
-use Rattle.gsdf.specs.DisplayFunction.{index_of, InTable}
+use Rattle.gsdf.specs.DisplayFunction.{InTable}
 use Rattle.gsdf.specs.Ends.{below_table, above_table}
 use Rattle.gsdf.proofs.Ends.{not_below, not_above}
 use Rattle.gsdf.proofs.Laws.{luminance_far, luminance_mono, index_low, index_high}
@@ -31,40 +27,17 @@ use Rattle.contrast.proofs.Bounds.{per_mille_fits}
 -- where test 12 finds none outside, each luminance is in the table
 pub all_inside : (v : ℕ → ℕ) → some_outside v ≡ false → (i : ℕ) → i < 18 → InTable (v i)
 unfolding some_outside
-all_inside v e i h =
-    let (low, high) = or_no (below_table (v i)) (above_table (v i)) (no_is (none_of (λ i. below_table (v i) || above_table (v i)) 18 i e h)) in
-    record { low = not_below (v i) (is_no (below_table (v i)) low); high = not_above (v i) (is_no (above_table (v i)) high) }
+all_inside v e i h = grind (arith, none_of (λ i. below_table (v i) || above_table (v i)) 18 i e h, not_below, not_above)
 
-module _ (v : ℕ → ℕ) where
-  -- test 13 asks whether the last index is less than 10,000 above the first
-  pub is_narrow : index_of (v 17) < index_of (v 0) + 10000 → check_too_narrow v ≡ true
-  unfolding check_too_narrow check_range
-  is_narrow h = minus_below (index_of (v 17)) (index_of (v 0)) 10000 h
-
-  pub is_wide : index_of (v 0) + 10000 ≤ index_of (v 17) → check_too_narrow v ≡ false
-  unfolding check_too_narrow check_range
-  is_wide h = minus_not_below (index_of (v 17)) (index_of (v 0)) 10000 h
-
-  pub wide_of : check_too_narrow v ≡ false → index_of (v 0) + 10000 ≤ index_of (v 17)
-  wide_of e = ⊎_elim (λ h. h) (λ h. absurd (yes_is (sym e ∙ is_narrow h))) (le_or_lt (index_of (v 0) + 10000) (index_of (v 17)))
-
--- the code asks it of N, which is 0 where the last index is the lower
+-- test 13 asks whether the last index is less than 10,000 above the first; the code asks it of N, which is 0 where the last index is the lower
 pub narrow_is : (v : ℕ → ℕ) → too_narrow (range_of (v 0) (v 17)).range.0 ≡ check_too_narrow v
-unfolding range_of
-narrow_is v =
-    ⊎_elim
-    (λ h. le-ltb (index_of (v 17) - index_of (v 0)) 10000 (omega arith) ∙ sym (is_wide v h))
-    (λ h. lt-ltb (index_of (v 17) - index_of (v 0)) 10000 (omega (arith, index_low (v 0))) ∙ sym (is_narrow v h))
-    (le_or_lt (index_of (v 0) + 10000) (index_of (v 17)))
+unfolding range_of check_too_narrow check_range
+narrow_is v = grind (arith, ints, index_low)
 
 -- what passes both covers the range of its ends
 pub covers : (v : ℕ → ℕ) → some_outside v ≡ false → check_too_narrow v ≡ false → Covers v (range_of (v 0) (v 17))
-unfolding range_of
-covers v e n = record {
-  inside = all_inside v e;
-  is = refl;
-  wide = omega (arith, wide_of v n);
-}
+unfolding range_of check_too_narrow check_range
+covers v e n = record { inside = all_inside v e; is = refl; wide = grind (arith, ints) }
 
 -- ---- the targets in a range of indices: where n indices fit into each step, a target is more than (47 × n − 100) / 100 above the one before
 
@@ -72,24 +45,14 @@ luminance_next : (first range steps n : ℕ) → 100 ≤ first → first + range
     → 100 * target_at first range steps i + 47 * n < 100 * target_at first range steps (i + 1) + 100
 unfolding target_at
 luminance_next first range steps n low high some fit i h =
-    let here = index_at first range steps i in
-    let next = index_at first range steps (i + 1) in
-    let from : 100 ≤ here = omega (arith, index_from first range steps i) in
-    let far : here + n ≤ next = index_apart first range steps low high some n fit i in
-    let top : next ≤ 102300 = index_to first range steps low high some (i + 1) (omega arith) in
-    omega (arith, luminance_far here n from (omega arith), luminance_mono (here + n) next (omega arith) far top)
+    grind (arith, index_apart, index_to, index_from, luminance_far (index_at first range steps i) n, luminance_mono (index_at first range steps i + n))
 
 -- ---- a check that passes both tests
 
 module _ {v : ℕ → ℕ} {indices : IndexRange} (s : Covers v indices) where
   pub aims : {top : ℕ} → 1 ≤ top → top ≤ 1023 → Aims indices.low.0 indices.range.0 top
   unfolding range_of
-  aims some most = rw s.is (record {
-    first = index_low (v 0);
-    last = omega (arith, index_high (v 0), index_high (v 17));
-    some = some;
-    most = most;
-  })
+  aims some most = rw s.is (grind (arith, index_low, index_high))
 
   aims_17 : Aims indices.low.0 indices.range.0 17
   aims_17 = aims (omega arith) (omega arith)
@@ -100,19 +63,12 @@ module _ {v : ℕ → ℕ} {indices : IndexRange} (s : Covers v indices) where
 
   -- the expected luminances rise by 276 or more from a patch to the next
   pub expected_rises : (i : ℕ) → i < 17 → expected v i + 276 ≤ expected v (i + 1)
-  expected_rises i h =
-      rw (← expected_is i, ← expected_is (i + 1))
-      (omega (arith, luminance_next indices.low.0 indices.range.0 17 588 aims_17.first aims_17.last aims_17.some (omega (arith, s.wide)) i h))
+  expected_rises i h = grind (arith, expected_is, luminance_next indices.low.0 indices.range.0 17 588, aims_17, s.wide)
 
   -- two patches are a pair with the targets of any number of steps into each of which 100 indices fit
   pub pair_of : (steps : ℕ) → 17 ≤ steps → steps ≤ 100 → (i : ℕ) → i < 17
       → Pair (v i) (v (i + 1)) (target_at indices.low.0 indices.range.0 steps i) (target_at indices.low.0 indices.range.0 steps (i + 1))
-  pair_of steps least most i h = record {
-    p_in = s.inside i (omega arith);
-    s_in = s.inside (i + 1) (omega arith);
-    h_top = target_high indices.low.0 indices.range.0 steps aims_17.first aims_17.last (omega arith) (i + 1) (omega arith);
-    rise = omega (arith, luminance_next indices.low.0 indices.range.0 steps 100 aims_17.first aims_17.last (omega arith) (omega (arith, s.wide)) i (omega arith));
-  }
+  pair_of steps least most i h = grind (arith, s.inside, target_high, luminance_next indices.low.0 indices.range.0 steps 100, aims_17, s.wide)
 
   -- so with 17 each pair has a deviation, and it is a number of 32 bits
   pub pair_at_lem : (i : ℕ) → i < 17 → Pair (v i) (v (i + 1)) (expected v i) (expected v (i + 1))

@@ -19,6 +19,11 @@ use Rattle.contrast.specs.declared.Limit.TheVariants.{TenPercent, TwentyPercent}
 use Rattle.contrast.specs.declared.Verdict.{Verdict}
 use Rattle.contrast.specs.declared.Verdict.TheVariants.{Pass, Fail}
 
+-- the number of a verdict; document 01 has words alone
+abbrev pub verdict_number : Verdict → ℕ
+verdict_number Pass = 1
+verdict_number Fail = 2
+
 -- v(i) of document 01: A and reading i, which is that of the patch shown at P-value 15 × i
 unfoldable pub shown : (added : ℕ) (readings : List ℕ) (i : ℕ) → ℕ
 shown added readings i = added + get_or readings i 0

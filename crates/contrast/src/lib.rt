@@ -4,7 +4,7 @@
 ghost use Rattle.std.specs.Prelude.{◌≡◌, ◌<◌, ◌≤◌, length};
 ghost use Rattle.gsdf.specs.DisplayFunction.{InTable};
 ghost use Rattle.contrast.specs.Deviation.{expected_contrast, excess, deviation_of, keeps_limit};
-ghost use Rattle.contrast.specs.Check.{shown, some_outside, limit_of, limit_parts, Checkable, Checked, Covers, InPlace};
+ghost use Rattle.contrast.specs.Check.{verdict_number, shown, some_outside, limit_of, limit_parts, Checkable, Checked, Covers, InPlace};
 
 use neighbours::Neighbours;
 use record::{Class, Refusal};
@@ -15,8 +15,16 @@ mod neighbours;
 
 #[derive(Clone, Copy)]
 pub enum Verdict {
-    Pass,
-    Fail,
+    Pass = 1,
+    Fail = 2,
+}
+
+impl From<Verdict> for u32 {
+    ghost from_gives = { λ verdict n. n ≡ verdict_number verdict };
+
+    fn from(verdict: Verdict) -> u32 {
+        verdict as u32
+    }
 }
 
 // How far the contrast of each pair may be off.

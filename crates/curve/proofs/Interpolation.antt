@@ -1,15 +1,14 @@
 -- The value between two readings: it is theirs at both ends, never falls, and never leaves what lies between them.
 -- Assumes nothing.
-use Rattle.std.proofs.Common.{◌≡◌, ap, ℕ, ◌+◌, ◌-◌, ◌*◌, ◌/◌, ◌≤◌, ◌<◌, mul-zero, arith}
-use Rattle.std.proofs.Math.Nat.{zero-div, sub-zero, sub_self, mul-div_cancel, mul-le-mul_left, mul-add-div_right, div-eq_of_lt}
-use Rattle.laws.proofs.Numbers.{quotient_mono}
+use Rattle.std.proofs.Common.{◌≡◌, ap, ℕ, ◌+◌, ◌-◌, ◌*◌, ◌/◌, ◌≤◌, ◌<◌, arith}
+use Rattle.std.proofs.Math.Nat.{sub-zero, mul-add-div_right, div-eq_of_lt}
 use Rattle.curve.specs.Curve.{interpolate}
 use Rattle.curve.specs.Walk.{PointAt}
 
 module _ (d1 l1 d2 l2 : ℕ) where
   pub interpolate_first : interpolate d1 l1 d2 l2 d1 ≡ l1
   unfolding interpolate
-  interpolate_first = rw (sub_self d1, mul-zero, zero-div) (omega arith)
+  interpolate_first = grind arith
 
   pub interpolate_low : (d : ℕ) → l1 ≤ interpolate d1 l1 d2 l2 d
   unfolding interpolate
@@ -23,29 +22,23 @@ module _ (d1 l1 d2 l2 : ℕ) where
   -- light that is added to both readings is added to what lies between
   pub interpolate_lit : (added d : ℕ) → interpolate d1 (added + l1) d2 (added + l2) d ≡ added + interpolate d1 l1 d2 l2 d
   unfolding interpolate
-  interpolate_lit added d =
-      let e : added + l2 - (added + l1) ≡ l2 - l1 = omega arith in
-      rw e (omega arith)
+  interpolate_lit added d = grind arith
 
   module _ (rise : d1 < d2) where
     pub interpolate_mono : (d e : ℕ) → d ≤ e → interpolate d1 l1 d2 l2 d ≤ interpolate d1 l1 d2 l2 e
     unfolding interpolate
-    interpolate_mono d e h =
-        omega (arith, quotient_mono ((l2 - l1) * (d - d1)) ((l2 - l1) * (e - d1)) (d2 - d1) (omega arith) (mul-le-mul_left (l2 - l1) (omega arith)))
+    interpolate_mono d e h = grind arith
 
     module _ (keep : l1 ≤ l2) where
       pub interpolate_last : interpolate d1 l1 d2 l2 d2 ≡ l2
       unfolding interpolate
-      interpolate_last = omega (arith, mul-div_cancel (l2 - l1) {n = d2 - d1} (omega arith))
+      interpolate_last = grind arith
 
       pub interpolate_high : (d : ℕ) → d ≤ d2 → interpolate d1 l1 d2 l2 d ≤ l2
-      interpolate_high d h = omega (arith, interpolate_last, interpolate_mono d d2 h)
+      unfolding interpolate
+      interpolate_high d h = grind arith
 
 -- ---- the points of the line between two readings
-
--- at the first reading, no part of a unit is there
-pub point_first : (l1 rise width : ℕ) → 0 < width → PointAt l1 rise width 0 l1 0
-point_first l1 rise width some = record { below = some; is = rw mul-zero }
 
 -- the luminance of a point is the value between the readings
 pub point_is : {l1 rise width k l part : ℕ} → PointAt l1 rise width k l part → l ≡ interpolate 0 l1 width (l1 + rise) k

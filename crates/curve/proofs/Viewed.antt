@@ -1,6 +1,6 @@
 -- The sweep of a record, as readings by their places.
 -- Assumes nothing.
-use Rattle.std.proofs.Common.{◌≡◌, sym, subst, ℕ, ◌<◌, length}
+use Rattle.std.proofs.Common.{◌≡◌, sym, ℕ, ◌<◌, length}
 use Rattle.record.specs.Bytes.{word}
 use Rattle.record.specs.Reader.{ddls_of}
 use Rattle.record.specs.declared.items.Field.{Ghosts}
@@ -13,4 +13,4 @@ module _ {field : Ghosts Reading} (sweep : Items Reading field) where
   readings = sym (fields_length 6 (word 0) sweep.count sweep.bytes.now)
 
   pub place_in : {i : ℕ} → i < length (ddls_of sweep) → i < sweep.count
-  place_in {i} h = subst (λ n. i < n) (sym readings) h
+  place_in h = rw readings h

@@ -1,14 +1,11 @@
 -- The contrast check of a record: each way that the operation ends.
 -- Assumes nothing.
-use mathlib.Core.Path.{◌≡◌, refl, sym, ap, subst, ◌∙◌}
+use mathlib.Core.Path.{◌≡◌, refl, ap, subst, ◌∙◌}
 use mathlib.Core.List.{List, ◌++◌, append-nil}
-use mathlib.Core.Logic.{⊎_elim}
 use Prim.Native.Nat.{ℕ, ◌≤◌, ◌<◌}
 use native.Mathlib.Omega.{arith}
-use lib.Dec.{eqb}
 use lib.IntN.{ℤ}
 use lib.ListN.{length, drop, drop_of_length-le}
-use mir.Facts.{or_yes, eqb_yes}
 use borrow.Author.Tests.{le-ltb, lt-ltb}
 use Rattle.std.specs.Prelude.{Option, Some, None, Result, Ok, Err}
 use Rattle.record.specs.Sections.{after, sections, check_in}
@@ -25,16 +22,15 @@ use Rattle.engine.specs.Drawing.{PassedTests}
 use Rattle.engine.specs.Check.{check_of, check_after, check_answer, places_of, places_over, check_lent, CheckPromise}
 use Rattle.engine.specs.declared.Light.{Light}
 use Rattle.engine.specs.declared.TestedJob.{TestedJob}
-use Rattle.engine.proofs.Measuring.{made_of, kept}
-use Rattle.engine.proofs.Reading.{sound_as, check_is, display_of}
+use Rattle.engine.proofs.Reading.{sound}
 use Rattle.engine.proofs.CheckOutcomes.{promised}
 
 -- where some readings of the check are read, all 18 are
 pub all_read : {bytes : List ℕ} {tested : TestedJob} → PassedTests bytes tested → (tested.found.check.count ≡ 0 → ⊥) → tested.found.check.count ≡ 18
 all_read {bytes = bytes} {tested = tested} p some =
-    let k = length (check_in (sections bytes)) in
-    let e : k ≡ tested.found.check.count = rw (← check_is p.read, fields_length) refl in
-    sym e ∙ ⊎_elim (λ z. absurd (some (sym e ∙ eqb_yes z))) (λ z. eqb_yes z) (or_yes (eqb k 0) (eqb k 18) (accepted_job bytes tested.job p.accepted).patches)
+    let a = (accepted_job bytes tested.job p.accepted).patches in
+    let e : length (check_in (sections bytes)) ≡ tested.found.check.count = rw (← p.read.lists, fields_length) in
+    grind arith
 
 module _ (bytes : List ℕ) (before : List ℤ) where
   pub check_short : length before < 17 → CheckPromise bytes before before (Err LentTooShort)
@@ -53,14 +49,11 @@ module _ (bytes : List ℕ) (before : List ℤ) where
 
     -- by what passed tests 2 to 10
     module _ {tested : TestedJob} (p : PassedTests bytes tested) where
-      sound : soundness bytes ≡ Ok (made_of (display_of p) tested.indices p.wide)
-      sound = sound_as bytes tested.job p.accepted ∙ kept (display_of p) tested.indices p.wide
-
       pub check_none : tested.found.check.count ≡ 0 → CheckPromise bytes before before (Ok None)
       unfolding check_of places_of
       check_none z =
-          let n : length (check_in (sections bytes)) ≡ 0 = rw (← check_is p.read, fields_length) z in
-          ended sound (rw n refl) (rw n refl)
+          let n : length (check_in (sections bytes)) ≡ 0 = rw (← p.read.lists, fields_length) z in
+          ended (sound p) (rw n refl) (rw n refl)
 
       -- its readings fill an array of 18
       pub check_made : (array : List ℕ) {readings : List ℕ} {limit : Limit} {found : Result Verdict Refusal} {answer : Result (Option Verdict) Refusal} {places : List ℤ}
@@ -69,9 +62,9 @@ module _ (bytes : List ℕ) (before : List ℤ) where
       unfolding check_of places_of
       check_made array {readings = readings} {limit = limit} {found = found} {places = places} some m f l h a =
           let all = all_read p some in
-          let n : length (check_in (sections bytes)) ≡ 18 = rw (← check_is p.read, fields_length) all in
+          let n : length (check_in (sections bytes)) ≡ 18 = rw (← p.read.lists, fields_length) all in
           let e : readings ≡ values tested.found.check = f ∙ rw (drop_of_length-le array {i = tested.found.check.count} (omega (arith, all, m)), append-nil) in
           let lit = subst (λ (x : Light). Checked limit (shown x.added.0 readings) found before places) p.light h in
           let limited = subst (λ (x : Limit). Checked x (shown (added_of tested.job) readings) found before places) l lit in
-          let own = subst (λ (xs : List ℕ). Checked (limit_of tested.job.settings.class) (shown (added_of tested.job) xs) found before places) (e ∙ check_is p.read) limited in
-          ended sound (rw (n, a) (ap (λ (x : Result Verdict Refusal). after x (λ verdict. Ok (Some verdict))) own.answers)) (rw n own.places)
+          let own = subst (λ (xs : List ℕ). Checked (limit_of tested.job.settings.class) (shown (added_of tested.job) xs) found before places) (e ∙ ap check_in p.read.lists) limited in
+          ended (sound p) (rw (n, a) (ap (λ (x : Result Verdict Refusal). after x (λ verdict. Ok (Some verdict))) own.answers)) (rw n own.places)

@@ -1,46 +1,37 @@
 -- What follows from the promise of the contrast check.
 -- Assumes nothing.
-use mathlib.Core.Path.{◌≡◌, refl, sym, ap, ◌∙◌}
+use mathlib.Core.Path.{◌≡◌, refl, sym, ◌∙◌}
 use mathlib.Core.Bool.{true, false}
 use mathlib.Core.List.{List, ◌++◌}
 use Prim.Native.Nat.{ℕ, ◌+◌, ◌-◌, ◌≤◌, ◌<◌}
 use native.Mathlib.Omega.{arith}
 use lib.IntN.{ℤ, pos, ◌*ℤ◌}
 use lib.ListN.{length, get_or, drop, length-append, length-drop, get_or-append}
-use lib.Seq.{get_or-append-add, get_or-drop}
+use lib.Seq.{get_or-drop}
 use lib.Signed.{◌≤ℤ◌}
 use mir.Facts.{clash}
-use borrow.Author.Tests.{le-leb, lt-leb, le-ltb, lt-ltb}
+use borrow.Author.Tests.{le-leb, lt-leb}
+use Rattle.std.proofs.lemmas.List.{get_or-append_right}
 use Rattle.std.specs.Prelude.{Some, None, Ok, Err}
 use Rattle.laws.specs.Search.{all}
 use Rattle.laws.proofs.Cases.{by, yes_is}
 use Rattle.laws.proofs.Search.{all_of, all_intro}
-use Rattle.record.specs.Sections.{after}
 use Rattle.record.specs.declared.Refusal.{Refusal}
 use Rattle.record.specs.declared.Job.{Job}
 use Rattle.contrast.specs.Deviation.{floor_of, excess, deviation_of, keeps_limit}
-use Rattle.contrast.specs.Check.{some_outside, check_range, check_too_narrow, at_pair, expected, limit_parts, deviations_of, verdict_of, contrast_of, deviations_over, Pair, limit_of}
+use Rattle.contrast.specs.Check.{some_outside, check_range, at_pair, expected, limit_parts, deviations_of, verdict_of, contrast_of, deviations_over, Pair, limit_of}
 use Rattle.contrast.specs.declared.Verdict.{Verdict}
 use Rattle.contrast.specs.declared.Verdict.TheVariants as verdict
 use Rattle.contrast.proofs.Floor.{floor_le, floor_lt}
 use Rattle.contrast.proofs.Bounds.{expected_pos}
 use Rattle.contrast.proofs.Laws.{covers, pair_at_lem, deviations_length, deviations_at}
 use Rattle.engine.specs.Conditions.{made_by}
-use Rattle.engine.specs.Check.{check_of, check_answer, places_of, check_lent, CheckValues, not_measured, pass, fail, number, check_values, v, scaled_excess, Y, HasReadings, Inside, CheckOutcome, short, back, unmeasured, outside, narrow, passes, fails, CheckPromise}
+use Rattle.engine.specs.Check.{check_of, check_answer, places_of, check_lent, CheckValues, not_measured, pass, fail, number, v, scaled_excess, Y, Inside, CheckOutcome, short, back, unmeasured, outside, narrow, passes, fails, CheckPromise}
 use Rattle.engine.specs.CheckFacts.{JudgedCheck, CheckSettled}
 use Rattle.engine.proofs.Conditions.{sent, went_on}
 use Rattle.engine.proofs.CheckTests.{outside_found, none_outside, is_narrow, wide_range}
 
 -- ---- an outcome settles the answer and the places, so no two outcomes of one record and one slice differ
-
-module _ {bytes : List ℕ} {before : List ℤ} {job : Job} (c : HasReadings bytes before job) where
-  settled : {places : List ℤ} {x : CheckValues} → x ≡ check_values (after (contrast_of (limit_of job.settings.class) (v bytes job)) (λ (w : Verdict). Ok (Some w)))
-      → places ≡ deviations_over (v bytes job) before → CheckSettled bytes before places x
-  unfolding check_answer check_lent made_by check_of places_of
-  settled ex ea = record {
-    places = simp (le-ltb _ _ c.long, went_on c.goes_on) (rw c.readings ea);
-    values_are = simp (le-ltb _ _ c.long, went_on c.goes_on) (rw c.readings ex);
-  }
 
 module _ {bytes : List ℕ} {before : List ℤ} {job : Job} (w : Inside bytes before job) where
   none : some_outside (v bytes job) ≡ false
@@ -60,23 +51,13 @@ module _ {bytes : List ℕ} {before : List ℤ} {job : Job} (w : Inside bytes be
 
 pub check_settles : {bytes : List ℕ} {before after : List ℤ} {x : CheckValues} → CheckOutcome bytes before after x → CheckSettled bytes before after x
 unfolding check_answer check_lent made_by check_of places_of contrast_of deviations_over verdict_of
-check_settles (short h) = record { places = simp (lt-ltb _ _ h); values_are = simp (lt-ltb _ _ h) }
-check_settles (back long b) =
-    let u = sent b in
-    record { places = simp (le-ltb _ _ long, u.is); values_are = simp (le-ltb _ _ long, u.is) (ap number (sym u.numbered)) }
-check_settles (unmeasured long g z) = record { places = simp (le-ltb _ _ long, went_on g) (rw z); values_are = simp (le-ltb _ _ long, went_on g) (rw z) }
-check_settles {bytes = bytes} (outside {job = job} c i h t) =
-    let o : some_outside (v bytes job) ≡ true = outside_found (v bytes job) i h t in
-    settled c (simp o) (simp o)
-check_settles {bytes = bytes} (narrow {job = job} w h) =
-    let n : check_too_narrow (v bytes job) ≡ true = is_narrow (v bytes job) h in
-    settled w.checks (simp (none w, n)) (simp (none w, n))
-check_settles {bytes = bytes} (passes {job = job} w r k) =
-    let n : check_too_narrow (v bytes job) ≡ false = wide_range (v bytes job) r in
-    settled w.checks (simp (none w, n, all_kept w r k)) (simp (none w, n))
-check_settles {bytes = bytes} (fails {job = job} w r i h k) =
-    let n : check_too_narrow (v bytes job) ≡ false = wide_range (v bytes job) r in
-    settled w.checks (simp (none w, n, one_off w r i h k)) (simp (none w, n))
+check_settles (short h) = grind arith
+check_settles (back long b) = let u = sent b in grind arith
+check_settles (unmeasured long g z) = grind (arith, went_on g)
+check_settles {bytes = bytes} (outside {job = job} c i h t) = grind (arith, went_on c.goes_on, outside_found (v bytes job) i h t)
+check_settles {bytes = bytes} (narrow {job = job} w h) = grind (arith, went_on w.checks.goes_on, none w, is_narrow (v bytes job) h)
+check_settles {bytes = bytes} (passes {job = job} w r k) = grind (arith, went_on w.checks.goes_on, none w, wide_range (v bytes job) r, all_kept w r k)
+check_settles {bytes = bytes} (fails {job = job} w r i h k) = grind (arith, went_on w.checks.goes_on, none w, wide_range (v bytes job) r, one_off w r i h k)
 
 -- ---- a check that was judged
 
@@ -92,23 +73,16 @@ module _ {bytes : List ℕ} {before : List ℤ} {job : Job} (w : Inside bytes be
       → get_or after i (pos 0) ≡ floor_of (pos 1000 *ℤ at_pair excess (v bytes job) i) (Y bytes job i)
   unfolding at_pair deviation_of
   place e i h =
-      ap (λ (xs : List ℤ). get_or xs i (pos 0)) e
-      ∙ get_or-append (deviations_of (v bytes job)) (drop 17 before) (pos 0) i (rw (deviations_length (v bytes job)) h)
-      ∙ deviations_at (v bytes job) i h
+      rw (e, get_or-append (deviations_of (v bytes job)) _ (pos 0) i (rw (deviations_length (v bytes job)) h)) (deviations_at (v bytes job) i h)
 
   behind : {after : List ℤ} → after ≡ deviations_of (v bytes job) ++ drop 17 before → (i : ℕ) → 17 ≤ i → get_or after i (pos 0) ≡ get_or before i (pos 0)
   behind e i h =
-      let n : length (deviations_of (v bytes job)) ≡ 17 = deviations_length (v bytes job) in
-      let at : length (deviations_of (v bytes job)) + (i - 17) ≡ i = omega (arith, n) in
       let from : 17 + (i - 17) ≡ i = omega arith in
-      let u : get_or (deviations_of (v bytes job) ++ drop 17 before) (length (deviations_of (v bytes job)) + (i - 17)) (pos 0) ≡ get_or before (17 + (i - 17)) (pos 0) =
-      get_or-append-add (deviations_of (v bytes job)) (drop 17 before) (i - 17) (pos 0) ∙ get_or-drop 17 before (i - 17) (pos 0) in
-      ap (λ (xs : List ℤ). get_or xs i (pos 0)) e ∙ (rw (at, from) at u)
+      rw (e, get_or-append_right (deviations_of (v bytes job)) _ 17 i (pos 0) (deviations_length (v bytes job)) h, get_or-drop, from)
 
   same_size : {after : List ℤ} → after ≡ deviations_of (v bytes job) ++ drop 17 before → length after ≡ length before
   same_size e =
-      ap length e ∙ length-append (deviations_of (v bytes job)) _
-      ∙ omega (arith, deviations_length (v bytes job), length-drop 17 before, w.checks.long)
+      rw (e, length-append, length-drop) (omega (arith, deviations_length (v bytes job), w.checks.long))
 
   judged : {after : List ℤ} (found : Verdict) → after ≡ deviations_of (v bytes job) ++ drop 17 before
       → (found ≡ verdict.Pass → (i : ℕ) → i < 17 → scaled_excess bytes job i ≤ Y bytes job i)

@@ -1,15 +1,14 @@
 -- The contrast check in document 01's numbers and conditions.
 -- Assumes nothing.
+use native.Mathlib.Omega.{arith}
 use mathlib.Core.Path.{◌≡◌}
 use mathlib.Core.Bool.{true, false, ◌||◌}
 use mathlib.Core.List.{List, ◌++◌}
-use mathlib.Core.Logic.{◌⊎◌, inl, inr, ⊎_elim}
+use mathlib.Core.Logic.{◌⊎◌, ⊎_elim}
 use Prim.Native.Nat.{ℕ, ◌≤◌, ◌<◌}
-use lib.Dec.{eqb}
 use lib.IntN.{ℤ, pos}
 use lib.ListN.{length, drop}
 use lib.Signed.{◌≤ℤ◌}
-use mir.Facts.{or_yes, eqb_yes}
 use borrow.Author.Tests.{leb-true, leb-false, le-ltb, lt-ltb}
 use Rattle.std.specs.Prelude.{Option, Result}
 use Rattle.laws.specs.Search.{all}
@@ -36,9 +35,7 @@ module _ (bytes : List ℕ) (before : List ℤ) (long : 17 ≤ length before) (j
   Of answer after = CheckOutcome bytes before after (check_values answer)
 
   some_or_none : (length (check_in (sections bytes)) ≡ 0) ⊎ (length (check_in (sections bytes)) ≡ 18)
-  some_or_none =
-      let n = length (check_in (sections bytes)) in
-      ⊎_elim (λ z. inl (eqb_yes z)) (λ z. inr (eqb_yes z)) (or_yes (eqb n 0) (eqb n 18) (accepted_job bytes job g.accepted).patches)
+  some_or_none = let a = (accepted_job bytes job g.accepted).patches in grind arith
 
   module _ (n : length (check_in (sections bytes)) ≡ 18) where
     checks : HasReadings bytes before job

@@ -6,11 +6,11 @@ use mathlib.Core.Logic.{◌⊎◌, inl, inr, ⊎_elim}
 use Prim.Native.Nat.{ℕ, ◌≤◌, ◌<◌}
 use lib.IntN.{ℤ, pos}
 use lib.Signed.{lt_z, ◌≤ℤ◌, ◌<ℤ◌}
-use mir.Facts.{or_yes, or_no, clash}
-use borrow.Author.Tests.{ltb-true, ltb-false, lt-ltb}
+use mir.Facts.{clash}
+use borrow.Author.Tests.{lt-ltb}
 use native.Mathlib.Omega.{arith}
 use Rattle.std.proofs.lemmas.Int.{ints}
-use Rattle.laws.proofs.Cases.{is_yes, is_no, yes_is, no_is, yes_or}
+use Rattle.laws.proofs.Cases.{is_yes, yes_is, yes_or}
 use Rattle.laws.proofs.Search.{any_intro, any_none}
 use Rattle.gsdf.specs.DisplayFunction.{jnd_luminance}
 use Rattle.gsdf.specs.Ends.{below_table, above_table}
@@ -20,14 +20,11 @@ use Rattle.contrast.specs.Check.{some_outside, check_range, check_too_narrow}
 
 pub past_end : (l : ℕ) → below_table l || above_table l ≡ true → (l < jnd_luminance 1) ⊎ (jnd_luminance 1023 < l)
 unfolding below_table above_table
-past_end l e =
-    ⊎_elim (λ b. inl (ltb-true _ _ (is_yes _ b))) (λ a. inr (ltb-true _ _ (is_yes _ a))) (or_yes (below_table l) (above_table l) (yes_is e))
+past_end l e = grind arith
 
 pub not_past : (l : ℕ) → below_table l || above_table l ≡ false → (jnd_luminance 1 ≤ l) × (l ≤ jnd_luminance 1023)
 unfolding below_table above_table
-not_past l e =
-    let (b, a) = or_no (below_table l) (above_table l) (no_is e) in
-    (ltb-false _ _ (is_no _ b), ltb-false _ _ (is_no _ a))
+not_past l e = grind arith
 
 pub not_less : (z : ℤ) (k : ℕ) → lt_z z (pos k) ≡ false → pos k ≤ℤ z
 not_less z k e = grind (arith, ints)

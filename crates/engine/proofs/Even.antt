@@ -54,9 +54,6 @@ module _ (bytes before words : List ℕ) where
   too_little_lem e = unchanged LentTooShort (simp e) (simp e)
 
   module _ (long : too_little (length before) (length words) ≡ false) where
-    enough : Enough before words
-    enough = lent_enough long
-
     pub even_back : (r : Refusal) → soundness bytes ≡ Err r → EvenPromise bytes before before words words (Err r)
     unfolding even_answer even_lent
     even_back r e =

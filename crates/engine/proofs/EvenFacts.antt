@@ -1,6 +1,7 @@
 -- What follows from the promise of the even table.
 -- Assumes nothing.
-use mathlib.Core.Path.{◌≡◌, refl, ap, sym, ◌∙◌}
+use native.Mathlib.Omega.{arith}
+use mathlib.Core.Path.{◌≡◌, refl}
 use mathlib.Core.List.{List, ◌++◌}
 use Prim.Native.Nat.{ℕ}
 use lib.ListN.{drop}
@@ -45,25 +46,14 @@ module _ {bytes : List ℕ} {job : Job} {x : lists.Given} (ok : Workable x) (s :
 -- an outcome settles the answer and the entries, so no two outcomes of one record and the same slices differ
 pub even_settles : {bytes before words after : List ℕ} {v : EvenValues} → EvenOutcome bytes before words after v → EvenSettled bytes before words after v
 unfolding even_answer even_lent
-even_settles (short h) = record { entries = simp (short_lent _ _ h); values_are = simp (short_lent _ _ h) }
-even_settles (back enough b) =
-    let u = sent b in
-    record {
-      entries = simp (enough_lent enough, u.is);
-      values_are = simp (enough_lent enough, u.is) (ap number (sym u.numbered));
-    }
+even_settles (short h) = grind (arith, short_lent)
+even_settles (back enough b) = let u = sent b in grind (arith, enough_lent enough)
 even_settles {bytes = bytes} {before = before} {words = words} (none enough g h) =
     let c = none_computed (workable (known g)) (spells g) before h in
-    record {
-      entries = c.entries ∙ sym (entries_are bytes before words enough g);
-      values_are = c.values_are ∙ ap even_values (sym (answer_is bytes before words enough g));
-    }
+    grind (arith, entries_are bytes before words enough g, answer_is bytes before words enough g)
 even_settles {bytes = bytes} {before = before} {words = words} (made {table = table} enough g v) =
     let c = made_computed (workable (known g)) (spells g) before table v in
-    record {
-      entries = c.entries ∙ sym (entries_are bytes before words enough g);
-      values_are = c.values_are ∙ ap even_values (sym (answer_is bytes before words enough g));
-    }
+    grind (arith, entries_are bytes before words enough g, answer_is bytes before words enough g)
 
 -- a number comes with the entries as they were
 abbrev Kept : (before after : List ℕ) → EvenValues → Type 0

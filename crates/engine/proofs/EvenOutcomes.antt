@@ -1,17 +1,15 @@
 -- The even table in document 01's numbers and conditions, and demand 3.
 -- Assumes nothing.
+use native.Mathlib.Omega.{arith}
 use Prim.Native.Nat.{ℕ, ◌≤◌, ◌<◌}
 use mathlib.Core.Path.{◌≡◌, sym, ap, subst, ◌∙◌}
 use mathlib.Core.List.{List}
 use mathlib.Core.Bool.{true, false}
-use mathlib.Core.Logic.{◌⊎◌, ◌↔◌, inl, inr, ⊎_elim}
-use lib.Dec.{ltb}
+use mathlib.Core.Logic.{◌⊎◌, ◌↔◌}
 use lib.ListN.{length, get_or, take}
 use lib.Seq.{take-append_seam}
-use mir.Facts.{or_yes, or_no, ltb_yes, yes_ltb}
-use borrow.Author.Tests.{ltb-false, le-ltb}
 use Rattle.std.specs.Prelude.{Result, Ok, Err}
-use Rattle.laws.proofs.Cases.{by, yes_is, no_is, is_yes, is_no, yes_or}
+use Rattle.laws.proofs.Cases.{by, yes_is, no_is, is_yes}
 use Rattle.record.specs.declared.Refusal.{Refusal}
 use Rattle.record.specs.declared.Refusal.TheVariants.{NoTable}
 use Rattle.record.specs.declared.Job.{Job}
@@ -56,7 +54,7 @@ module _ {bytes : List ℕ} {job : Job} {x : lists.Given} (ok : Workable x) (s :
   -- the answer is "no table" exactly when the test passes
   none_told : outcome_answer (outcome_of x) ≡ Err NoTable → has_no_table x ≡ true
   unfolding outcome_of
-  none_told e = by (has_no_table x) (λ f. f) (λ f. cc (simp f at e))
+  none_told e = grind arith
 
   none_answers : has_no_table x ≡ true → outcome_answer (outcome_of x) ≡ Err NoTable
   unfolding outcome_of
@@ -73,10 +71,7 @@ module _ {bytes : List ℕ} {job : Job} {x : lists.Given} (ok : Workable x) (s :
 
   answered : {figures : EvenFigures} → Ok figures ≡ outcome_answer (outcome_of x) → Answered figures
   unfolding outcome_of
-  answered e =
-      by (has_no_table x)
-      (λ f. cc (simp f at e))
-      (λ f. record { some = f; figure = ap (λ (y : EvenFigures). y.worst) (cc (simp f at e)) })
+  answered e = grind arith
 
   front : (before : List ℕ) → has_no_table x ≡ false → take 256 (even_over x before) ≡ even_table x
   unfolding even_over
@@ -86,20 +81,15 @@ module _ {bytes : List ℕ} {job : Job} {x : lists.Given} (ok : Workable x) (s :
 
 -- ---- test 1
 
-lent_short : (entries words : ℕ) → too_little entries words ≡ true → (entries < 256) ⊎ (words < 8192)
-lent_short entries words e = ⊎_elim (λ a. inl (ltb_yes a)) (λ b. inr (ltb_yes b)) (or_yes (ltb entries 256) (ltb words 8192) (yes_is e))
-
 pub lent_enough : {before words : List ℕ} → too_little (length before) (length words) ≡ false → Enough before words
-lent_enough {before} {words} e =
-    let (a, b) = or_no (ltb (length before) 256) (ltb (length words) 8192) (no_is e) in
-    record { entries = ltb-false _ _ (is_no _ a); words = ltb-false _ _ (is_no _ b) }
+lent_enough e = grind arith
 
 -- and back
 pub short_lent : (entries words : ℕ) → (entries < 256) ⊎ (words < 8192) → too_little entries words ≡ true
-short_lent entries words h = is_yes _ (yes_or (ltb entries 256) (ltb words 8192) (⊎_elim (λ a. inl (yes_ltb a)) (λ b. inr (yes_ltb b)) h))
+short_lent entries words h = grind arith
 
 pub enough_lent : {before words : List ℕ} → Enough before words → too_little (length before) (length words) ≡ false
-enough_lent n = simp (le-ltb _ _ n.entries, le-ltb _ _ n.words)
+enough_lent n = grind arith
 
 -- ---- any record
 
@@ -112,7 +102,7 @@ module _ (bytes before words : List ℕ) where
   unfolding even_answer even_lent
   some_even =
       by (too_little (length before) (length words))
-      (λ e. simp e (short (lent_short _ _ e)))
+      (λ e. simp e (short (grind arith)))
       (λ e. simp e (long_outcome _ (lent_enough e) (standing bytes)))
 
   module _ {job : Job} (enough : Enough before words) (g : GoesOn bytes job) where

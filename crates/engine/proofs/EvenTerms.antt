@@ -10,7 +10,6 @@ use Rattle.laws.specs.Numbers.{distance}
 use Rattle.laws.proofs.Numbers.{max_same}
 use Rattle.record.specs.Sections.{sections, ddls_in, luminances_in}
 use Rattle.record.specs.declared.Job.{Job}
-use Rattle.record.proofs.Accepted.{accepted_job}
 use Rattle.curve.specs.Curve.{Sweep}
 use Rattle.curve.proofs.Laws as curve
 use Rattle.target.proofs.Laws as target
@@ -20,7 +19,7 @@ use Rattle.engine.specs.Sound.{SoundJob, IsSound, added_of, top_of}
 use Rattle.engine.specs.Conditions.{F, jlo, N, GoesOn, made_by}
 use Rattle.engine.specs.Even.{given_by, w, t, WithinError, AllowedTable, step_deviation_at, worst_step, IsEvenTable}
 use Rattle.engine.proofs.Conditions.{went_on}
-use Rattle.engine.proofs.Reading.{sweep_of}
+use Rattle.engine.proofs.Reading.{measurable}
 use Rattle.engine.proofs.Soundness.{sound_job}
 
 -- curve and targets of a sound job, with its allowed error or another one in range, are what the even table asks
@@ -55,7 +54,7 @@ module _ {bytes : List ℕ} {job : Job} (g : GoesOn bytes job) where
   known = sound_job bytes _ (went_on g)
 
   sweep : Sweep (ddls_in (sections bytes)) (luminances_in (sections bytes)) (top_of job)
-  sweep = sweep_of (accepted_job bytes job g.accepted)
+  sweep = (measurable bytes g.accepted).sweep
 
   pub spells : Spells bytes job (given_by (made_by bytes job))
   unfolding made_by

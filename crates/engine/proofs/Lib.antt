@@ -1,5 +1,4 @@
 pub mod Examples
-pub mod Clashes
 pub mod Tests
 pub mod Measuring
 pub mod Reading

@@ -1,11 +1,9 @@
 -- The nearest table of a record: each way that the operation ends.
 -- Assumes nothing.
-use mathlib.Core.Path.{◌≡◌, sym}
+use mathlib.Core.Path.{◌≡◌}
 use mathlib.Core.List.{List}
 use Prim.Native.Nat.{ℕ, ◌≤◌, ◌<◌}
-use native.Mathlib.Nat.{eq-or-lt_of_le, le_of_lt, le_refl}
 use native.Mathlib.Omega.{arith}
-use mathlib.Core.Logic.{⊎_elim}
 use lib.ListN.{length, take, get_or}
 use borrow.Author.Tests.{le-ltb, lt-ltb}
 use Rattle.std.specs.Prelude.{Ok, Err}
@@ -26,36 +24,24 @@ use Rattle.engine.proofs.Soundness.{sound_job}
 
 -- targets that rise never fall
 pub targets_keep : {job : SoundJob} → IsSound job → NeverFalls job.targets
-targets_keep s = record {
-  keeps = λ i k h l. ⊎_elim (λ e. rw e (le_refl _)) (λ b. le_of_lt (s.targets_rise i k b (omega (arith, s.values)))) (eq-or-lt_of_le h);
-}
+targets_keep s = record { keeps = λ i k h l. grind (arith, s.targets_rise i k) }
 
 module _ (bytes before : List ℕ) where
   pub too_short : length before < 256 → NearestPromise bytes before before (Err LentTooShort)
   unfolding nearest_answer nearest_lent
-  too_short h = promised bytes before before (Err LentTooShort) (simp (lt-ltb _ _ h)) (simp (lt-ltb _ _ h))
+  too_short h = promised _ _ _ _ (simp (lt-ltb _ _ h)) (simp (lt-ltb _ _ h))
 
   module _ (long : 256 ≤ length before) where
     pub back : (r : Refusal) → soundness bytes ≡ Err r → NearestPromise bytes before before (Err r)
     unfolding nearest_answer nearest_lent
-    back r e = promised bytes before before (Err r) (simp (le-ltb _ _ long, e)) (simp (le-ltb _ _ long, e))
+    back r e = promised _ _ _ _ (simp (le-ltb _ _ long, e)) (simp (le-ltb _ _ long, e))
 
     module _ {tested : TestedJob} {levels : ℕ} {curve targets : List ℕ} (d : Drawn bytes tested levels curve targets) where
       pub fillable : Fillable (take levels curve) targets before
-      fillable =
-          let known = sound_job bytes _ d.is in
-          record {
-            walkable = record {
-              some = omega (arith, known.levels_low);
-              levels = omega (arith, known.levels_high);
-              never_falls = known.curve_keeps;
-            };
-            targets_keep = targets_keep known;
-            fits = omega (arith, known.values);
-          }
+      fillable = let known = sound_job bytes _ d.is in grind (arith, targets_keep known)
 
       pub filled : {mark : RoomMark} (after : List ℕ) (error : Luminance) → mark ≡ room_mark (room_of tested.job) (get_or (luminances_in (sections bytes)) 0 0)
           → Filled (take levels curve) targets before after error.0
           → NearestPromise bytes before after (Ok (record { indices = tested.indices; mark = mark; error = error }))
       unfolding nearest_answer nearest_lent
-      filled after error m h = promised bytes before after _ (simp (le-ltb _ _ long, d.is) (rw (m, sym h.largest))) (simp (le-ltb _ _ long, d.is) h.table)
+      filled after error m h = promised _ _ _ _ (simp (le-ltb _ _ long, d.is) (rw (m, ← h.largest))) (simp (le-ltb _ _ long, d.is) h.table)

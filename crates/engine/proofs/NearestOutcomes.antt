@@ -1,9 +1,10 @@
 -- The nearest table in document 01's numbers and conditions.
 -- Assumes nothing.
-use mathlib.Core.Path.{◌≡◌, ap, sym}
+use mathlib.Core.Path.{◌≡◌}
 use mathlib.Core.List.{List}
 use mathlib.Core.Logic.{⊎_elim}
 use Prim.Native.Nat.{ℕ, ◌≤◌, ◌<◌}
+use native.Mathlib.Omega.{arith}
 use lib.ListN.{length}
 use borrow.Author.Tests.{le-ltb, lt-ltb}
 use Rattle.std.specs.Prelude.{Result}
@@ -13,16 +14,16 @@ use Rattle.target.proofs.Laws.{targets_length}
 use Rattle.record.specs.declared.Refusal.{Refusal}
 use Rattle.engine.specs.declared.NearestFigures.{NearestFigures}
 use Rattle.engine.specs.Sound.{SoundJob}
-use Rattle.engine.specs.Conditions.{jlo, N, made_by, Standing, stands, returned}
-use Rattle.engine.specs.Nearest.{nearest_of, nearest_answer, entries_over, nearest_lent, NearestValues, number, nearest_values, NearestOutcome, short, back, made, NearestPromise}
+use Rattle.engine.specs.Conditions.{made_by, Standing, stands, returned}
+use Rattle.engine.specs.Nearest.{nearest_of, nearest_answer, entries_over, nearest_lent, NearestValues, nearest_values, NearestOutcome, short, back, made, NearestPromise}
 use Rattle.engine.specs.NearestFacts.{Settled}
 use Rattle.engine.proofs.Conditions.{standing, sent, went_on}
 
 module _ (bytes before : List ℕ) where
   long_outcome : (x : Result SoundJob Refusal) → 256 ≤ length before → Standing bytes x → NearestOutcome bytes before (entries_over x before) (nearest_values (nearest_of x))
   unfolding made_by range_of
-  long_outcome _ long (returned {r = r} b) = back long b
-  long_outcome _ long (stands {job = job} g) = rw (targets_length (jlo bytes job) (N bytes job) 255) (made long g)
+  long_outcome _ long (returned b) = back long b
+  long_outcome _ long (stands g) = rw targets_length (made long g)
 
   pub some_outcome : NearestOutcome bytes before (nearest_lent bytes before) (nearest_values (nearest_answer bytes (length before)))
   unfolding nearest_answer nearest_lent
@@ -39,11 +40,6 @@ module _ (bytes before : List ℕ) where
 -- an outcome settles the answer and the entries, so no two outcomes of one record and one slice differ
 pub settles : {bytes before after : List ℕ} {v : NearestValues} → NearestOutcome bytes before after v → Settled bytes before after v
 unfolding nearest_answer nearest_lent made_by range_of
-settles (short h) = record { entries = simp (lt-ltb _ _ h); values_are = simp (lt-ltb _ _ h) }
-settles (back long b) =
-    let u = sent b in
-    record { entries = simp (le-ltb _ _ long, u.is); values_are = simp (le-ltb _ _ long, u.is) (ap number (sym u.numbered)) }
-settles (made {job = job} long g) = record {
-  entries = simp (le-ltb _ _ long, went_on g) (rw targets_length);
-  values_are = simp (le-ltb _ _ long, went_on g);
-}
+settles (short h) = grind arith
+settles (back long b) = let u = sent b in grind arith
+settles (made long g) = grind (arith, went_on g, targets_length)

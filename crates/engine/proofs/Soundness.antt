@@ -3,7 +3,7 @@
 use mathlib.Core.Path.{◌≡◌, refl, ap, sym, subst, ◌∙◌}
 use mathlib.Core.List.{List}
 use Prim.Native.Nat.{ℕ, ◌+◌, ◌-◌, ◌≤◌, zero-le}
-use native.Mathlib.Nat.{le_refl, le_trans}
+use native.Mathlib.Nat.{le_refl, le_trans, pow-le-pow_right}
 use native.Mathlib.Omega.{arith}
 use lib.ListN.{length, get_or}
 use Rattle.std.specs.Prelude.{Result, Ok, Err}
@@ -20,20 +20,20 @@ use Rattle.target.proofs.Ranges.{range_black, range_white, range_between}
 use Rattle.record.specs.declared.Refusal.{Refusal}
 use Rattle.engine.specs.Sound.{SoundJob, IsSound, added_of, top_of, measured, soundness}
 use Rattle.engine.specs.Drawing.{sweep_tests}
-use Rattle.engine.proofs.Measuring.{Measurable, top_low, top_high, order, Passed, through, faulted, made_of, kept, aims}
+use Rattle.engine.proofs.Measuring.{Measurable, order, passed, made_of, measured_is, aims}
 use Rattle.engine.proofs.Reading.{measurable}
 
 module _ {job : Job} {ddls luminances : List ℕ} (m : Measurable job ddls luminances) (error : job.settings.tolerance ≤ 1000) where
   module _ (indices : IndexRange) (e : sweep_tests (added_of job) luminances ≡ Ok indices) where
-    made_sound : IsSound (made_of m indices e)
+    made_sound : IsSound (made_of job ddls luminances indices)
     made_sound =
         let s : Sweep ddls luminances (top_of job) = m.sweep in
         let added : ℕ = added_of job in
         let top : ℕ = top_of job in
-        let low : 255 ≤ top = top_low job.settings.depth m.depth_low m.depth_high in
-        let high : top ≤ 1023 = top_high job.settings.depth m.depth_low m.depth_high in
+        let low : 255 ≤ top = omega (arith, pow-le-pow_right {n = 2} (omega arith) m.depth_low) in
+        let high : top ≤ 1023 = omega (arith, pow-le-pow_right {n = 2} (omega arith) m.depth_high) in
         let a : Aims indices.low.0 indices.range.0 255 = aims m indices e in
-        let p : Passed (added + get_or luminances 0 0) (added + get_or luminances (length luminances - 1) 0) indices = through m indices e in
+        let p = passed _ _ indices e in
         let n : length luminances ≡ length ddls = s.pairs in
         let lc = curve.curve_length s added in
         record {
@@ -75,9 +75,9 @@ module _ {job : Job} {ddls luminances : List ℕ} (m : Measurable job ddls lumin
   measured_sound made e = go (sweep_tests (added_of job) luminances) refl
     where
       go : (x : Result IndexRange Refusal) → sweep_tests (added_of job) luminances ≡ x → IsSound made
-      go (Err r) t = cc (sym e ∙ faulted m r t)
+      go (Err r) t = cc (rw (measured_is m, t) at e)
       go (Ok indices) t =
-          let same : made_of m indices t ≡ made = cc (sym (kept m indices t) ∙ e) in
+          let same : made_of job ddls luminances indices ≡ made = cc (rw (measured_is m, t) at e) in
           subst IsSound same (made_sound indices t)
 
 -- the job of every record that is sound
@@ -87,4 +87,4 @@ sound_job bytes job e = go (answer_of bytes) refl
   where
     go : (x : Result Job Refusal) → answer_of bytes ≡ x → IsSound job
     go (Err r) t = cc (sym (rw t at e))
-    go (Ok j) t = measured_sound (measurable (accepted_job bytes j t)) (accepted_job bytes j t).tolerance job (rw t at e)
+    go (Ok j) t = measured_sound (measurable bytes t) (accepted_job bytes j t).tolerance job (rw t at e)

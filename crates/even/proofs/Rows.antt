@@ -1,19 +1,17 @@
 -- The rows of lit levels: a row filled from the next one holds the levels from which an allowed table goes on.
 -- Assumes nothing.
-use Prim.Native.Nat.{ℕ, suc, ◌-◌, ◌≤◌, ◌<◌, zero-le}
-use mathlib.Core.Path.{◌≡◌, refl, sym, ap, ap₂, subst, ◌∙◌}
-use mathlib.Core.Logic.{inr, ⊎_elim}
+use Prim.Native.Nat.{ℕ, suc, ◌-◌, ◌≤◌, ◌<◌}
+use mathlib.Core.Path.{◌≡◌, refl, ap, ap₂, ◌∙◌}
+use mathlib.Core.Logic.{inr}
 use mathlib.Core.Bool.{Bool, false, ◌&&◌, and_assoc, and_comm}
 use mathlib.Core.List.{List}
-use native.Mathlib.Nat.{le_refl, eq-or-lt_of_le}
 use native.Mathlib.Numerals.{add-one}
 use native.Mathlib.Omega.{arith}
 use lib.Dec.{T, leb, ltb}
 use lib.ListN.{length}
 use Rattle.laws.specs.Search.{any}
-use Rattle.laws.proofs.Cases.{by, yes_is}
 use Rattle.laws.proofs.Search.{any_intro, any_same}
-use Rattle.reach.specs.Rows.{lit, step_fits, reaches, RowKept, RowFilled}
+use Rattle.reach.specs.Rows.{reaches, RowKept, RowFilled}
 use Rattle.reach.proofs.Rows.{lit_same}
 use Rattle.even.specs.Even.{Given, target_step}
 use Rattle.even.specs.Table.{tables_within, good_at, feasible}
@@ -21,7 +19,7 @@ use Rattle.even.specs.Runs.{run_from, run_to}
 use Rattle.even.specs.Steps.{least_step, most_step}
 use Rattle.even.specs.Filled.{Workable, KeptFrom}
 use Rattle.even.specs.Filling.{lit_at, RowsGood, LastLit}
-use Rattle.even.proofs.Paths.{good_step, good_last, lowest_path_lem, path_from, path_good}
+use Rattle.even.proofs.Paths.{good_step, good_last, lowest_path_lem, path_good}
 use Rattle.even.proofs.Runs.{allowed_run}
 use Rattle.even.proofs.Steps.{step_fits_lem}
 
@@ -36,29 +34,18 @@ kept_then g h = record { len = h.len ∙ g.len; words = λ i l. h.words i l ∙ 
 pub kept_row : {p q : ℕ} {a b : List ℕ} → p < q → RowKept a b p → KeptFrom q a b
 kept_row l k = record { len = k.len; words = λ i h. k.words i (inr (omega arith)) }
 
-pub kept_less : {p q : ℕ} {a b : List ℕ} → p ≤ q → KeptFrom p a b → KeptFrom q a b
-kept_less l k = record { len = k.len; words = λ i h. k.words i (omega arith) }
-
 module _ {x : Given} (ok : Workable x) where
   -- the lit levels of a row that is kept
   pub lit_kept : {p : ℕ} {a b : List ℕ} → KeptFrom p a b → (q d : ℕ) → p ≤ q → d < length x.curve → lit_at x b q d ≡ lit_at x a q d
-  lit_kept {p} {a} {b} k q d l h = lit_same b a q (run_from x q) (run_to x q) d (omega (arith, ok.levels)) (λ i m n. k.words i (omega arith))
+  lit_kept {p} {a} {b} k q d l h = lit_same b a q _ _ d (omega (arith, ok.levels)) (λ i m n. k.words i (omega arith))
 
   pub last_kept : {a b : List ℕ} → KeptFrom (length x.targets - 1) a b → LastLit x a → LastLit x b
-  last_kept k h = record {
-    there = rw k.len h.there;
-    lit_last = λ d l. lit_kept k (length x.targets - 1) d (le_refl _) l ∙ h.lit_last d l;
-  }
+  last_kept k h = grind (arith, lit_kept k (length x.targets - 1), h.lit_last)
 
   -- ---- the last row
 
   pub last_good : {words : List ℕ} (k : ℕ) → LastLit x words → RowsGood x words k (length x.targets - 1)
-  last_good {words} k h = record { lit_good = λ q d a b l. at_last q d (omega arith) l }
-    where
-      at_last : (q d : ℕ) → q ≡ length x.targets - 1 → d < length x.curve → lit_at x words q d ≡ good_at x k q d
-      at_last q d e l =
-          subst (λ (q : ℕ). lit_at x words q d ≡ good_at x k q d) (sym e)
-          (h.lit_last d l ∙ sym (good_last (tables_within x k) d))
+  last_good {words} k h = grind (arith, good_last (tables_within x k))
 
   -- ---- a row from the next one
 
@@ -77,27 +64,15 @@ module _ {x : Given} (ok : Workable x) where
       same_reach : (d : ℕ) → reaches x.curve (lit_at x words (suc p)) (least_step k (target_step x p)) (most_step k (target_step x p)) d
           ≡ reaches x.curve (good_at x k (suc p)) (least_step k (target_step x p)) (most_step k (target_step x p)) d
       unfolding reaches
-      same_reach d =
-          any_same _ _ (length x.curve)
-          (λ e i. ap (λ (b : Bool). b && step_fits x.curve (least_step k (target_step x p)) (most_step k (target_step x p)) d e) (good.lit_good (suc p) e (le_refl _) l i))
+      same_reach d = any_same _ _ (length x.curve) (λ e i. rw (good.lit_good (suc p) e (omega arith) l i))
 
       module _ {after : List ℕ} {some : Bool}
           (filled : RowFilled x.curve words after p (run_from x p) (run_to x p) (run_from x (suc p)) (run_to x (suc p)) (least_step k (target_step x p)) (most_step k (target_step x p)) some) where
         row_good : (d : ℕ) → d < length x.curve → lit_at x after p d ≡ good_at x k p d
-        row_good d h =
-            filled.here d h
-            ∙ ap (λ (q : ℕ). leb (run_from x p) d && (ltb d (run_to x p) && reaches x.curve (lit words q (run_from x (suc p)) (run_to x (suc p))) (least_step k (target_step x p)) (most_step k (target_step x p)) d)) (add-one p)
-            ∙ ap (λ (b : Bool). leb (run_from x p) d && (ltb d (run_to x p) && b)) (same_reach d)
-            ∙ sym (good_by_step d h)
+        row_good d h = rw (filled.here d h, good_by_step d h, add-one p, same_reach d)
 
         pub rows_more : RowsGood x after k p
-        rows_more = record {
-          lit_good = λ q d a b h.
-              ⊎_elim
-              (λ e. subst (λ (q : ℕ). lit_at x after q d ≡ good_at x k q d) e (row_good d h))
-              (λ m. lit_kept (kept_row m filled.kept) q d (le_refl q) h ∙ good.lit_good q d m b h)
-              (eq-or-lt_of_le a);
-        }
+        rows_more = record { lit_good = λ q d a b h. grind (arith, row_good d, kept_row, lit_kept, good.lit_good q d) }
 
         pub rows_some : some ≡ any (good_at x k p) (length x.curve)
         rows_some = filled.found ∙ any_same _ _ (length x.curve) row_good
@@ -108,8 +83,8 @@ module _ {x : Given} (ok : Workable x) where
   unfolding feasible
   good_along k p l f =
       let path = lowest_path_lem (tables_within x k) f in
-      any_intro _ (length x.curve) _ (path.level p zero-le (omega arith))
-      (path_good (tables_within x k) _ p (omega arith) (path_from (tables_within x k) _ 0 p zero-le path))
+      any_intro _ (length x.curve) _ (path.level p (omega arith))
+      (path_good (tables_within x k) _ p (omega arith) path)
 
   pub row_empty : (k p : ℕ) → p < length x.targets → any (good_at x k p) (length x.curve) ≡ false → false ≡ feasible x k
-  row_empty k p l e = by (feasible x k) (λ f. absurd (subst T e (good_along k p l (yes_is f)))) sym
+  row_empty k p l e = grind (arith, good_along k p l)

@@ -62,13 +62,9 @@ fn rise_to(curve: &[u32], l: Luminance, from: usize) -> usize
     requires { from ≤ reaching curve.now l.0 }
     ensures { result ≡ reaching curve.now l.0 }
 {
-    // By hand: tried as std's `find`, and the proof did not close.
-    for d in from..curve.len() {
-        if l.0 <= curve[d] {
-            return d;
-        }
-    }
-    curve.len()
+    (from..curve.len())
+        .find(|&d| l.0 <= curve[d])
+        .unwrap_or(curve.len())
 }
 
 // The step deviation of a step f where g is wanted.

@@ -1,24 +1,13 @@
--- A luminance against the ends of Table B-1.
+-- What a luminance is that passes the tests against the ends of Table B-1.
 -- Assumes nothing.
-use mathlib.Core.Path.{◌≡◌, ap, sym}
+use mathlib.Core.Path.{◌≡◌}
 use mathlib.Core.Bool.{false}
 use Prim.Native.Nat.{ℕ, ◌≤◌}
 use native.Mathlib.Omega.{arith}
-use lib.Dec.{ltb}
 use borrow.Author.Tests.{ltb-false}
 use Rattle.gsdf.specs.DisplayFunction.{jnd_luminance}
 use Rattle.gsdf.proofs.TableRule.{jnd_first, jnd_last}
 use Rattle.gsdf.specs.Ends.{below_table, above_table}
-
-pub below_is : (l : ℕ) → ltb l 500 ≡ below_table l
-unfolding below_table
-below_is l = ap (λ (n : ℕ). ltb l n) (sym jnd_first)
-
-pub above_is : (l : ℕ) → ltb 39934040 l ≡ above_table l
-unfolding above_table
-above_is l = ap (λ (n : ℕ). ltb n l) (sym jnd_last)
-
--- what a luminance that passes the tests is
 
 pub not_below : (l : ℕ) → below_table l ≡ false → 500 ≤ l
 unfolding below_table

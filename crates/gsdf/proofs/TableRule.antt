@@ -1,7 +1,7 @@
 -- Neighbouring entries of Table B-1 differ by at least 47: one test over the whole table, and the rule at every JND.
 -- Assumes nothing.
 use mathlib.Core.Path.{◌≡◌, refl}
-use Prim.Native.Nat.{ℕ, suc, ◌+◌, ◌-◌, ◌*◌, ◌≤◌, ◌<◌}
+use Prim.Native.Nat.{ℕ, suc, ◌+◌, ◌*◌, ◌≤◌, ◌<◌}
 use native.Mathlib.Numerals.{add-one}
 use native.Mathlib.Omega.{arith}
 use lib.ListN.{length, get_or}
@@ -30,11 +30,7 @@ table_b1_never_falls =
 
 pub jnd_grows : Grows jnd_luminance 47 1 1023
 unfolding jnd_luminance
-jnd_grows = record {
-  step = λ j l h.
-      let e : j + 1 - 1 ≡ suc (j - 1) = omega arith in
-      rw e (neighbours (j - 1) (omega arith));
-}
+jnd_grows = grind (arith, neighbours)
 
 pub jnd_rises : (j : ℕ) → 1 ≤ j → j < 1023 → jnd_luminance j + 47 ≤ jnd_luminance (j + 1)
 jnd_rises j l h = jnd_grows.step j l h
@@ -68,11 +64,8 @@ pub jnd_mono : (i j : ℕ) → 1 ≤ i → i ≤ j → j ≤ 1023 → jnd_lumina
 jnd_mono i j l ij h = never_falls jnd_grows i j l ij h
 
 pub jnd_strict : (i j : ℕ) → 1 ≤ i → i < j → j ≤ 1023 → jnd_luminance i < jnd_luminance j
-jnd_strict i j l ij h = omega (arith, jnd_rises i l (omega arith), jnd_mono (i + 1) j (omega arith) (omega arith) h)
+jnd_strict i j l ij h = omega (arith, jnd_rises i, jnd_mono (i + 1) j)
 
--- each is from T(1) to T(1023)
-pub jnd_low : (j : ℕ) → 1 ≤ j → j ≤ 1023 → 500 ≤ jnd_luminance j
-jnd_low j l h = omega (arith, jnd_first, jnd_mono 1 j (omega arith) l h)
-
+-- each is at most T(1023)
 pub jnd_high : (j : ℕ) → 1 ≤ j → j ≤ 1023 → jnd_luminance j ≤ 39934040
-jnd_high j l h = omega (arith, jnd_last, jnd_mono j 1023 l h (omega arith))
+jnd_high j l h = omega (arith, jnd_last, jnd_mono j 1023)

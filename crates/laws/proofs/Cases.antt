@@ -1,11 +1,11 @@
 -- Tests taken apart into their cases. `mir.Facts` has those of `&&`, `||`, `leb`, `ltb` and `eqb`.
 -- Assumes nothing.
-use mathlib.Core.Path.{◌≡◌, refl, sym, ap, ◌∙◌}
-use mathlib.Core.Bool.{Bool, true, false, cond, not, ◌||◌}
-use mathlib.Core.Logic.{◌⊎◌, inl, inr}
+use mathlib.Core.Path.{◌≡◌, refl, ap, ◌∙◌}
+use mathlib.Core.Bool.{Bool, true, false, not, ◌||◌}
+use mathlib.Core.Logic.{◌⊎◌}
 use Prim.Native.Nat.{ℕ, ◌≤◌, ◌<◌}
-use lib.Dec.{T, leb}
-use borrow.Author.Tests.{leb-true, leb-false}
+use native.Mathlib.Omega.{arith}
+use lib.Dec.{T}
 use Rattle.std.specs.Prelude.{Result, Err}
 use Rattle.std.specs.Result.{IsErrAnd}
 use Rattle.std.proofs.lemmas.Result.{err_from_is_err_and}
@@ -25,22 +25,13 @@ no_is e = rw e tt
 
 -- two tests that pass for each other have one outcome
 pub same_outcome : (a b : Bool) → (T a → T b) → (T b → T a) → a ≡ b
-same_outcome true b f g = sym (is_yes b (f tt))
-same_outcome false true f g = absurd (g tt)
-same_outcome false false f g = refl
+same_outcome a b f g = grind arith
 
 pub le_or_lt : (a b : ℕ) → (a ≤ b) ⊎ (b < a)
-le_or_lt a b = by (leb a b) (λ e. inl (leb-true a b e)) (λ e. inr (leb-false a b e))
-
--- what holds of x where the test passes, and of y where it fails, holds of the one that is chosen
-pub chosen {ℓ κ} : {A : Type ℓ} (P : A → Type κ) (b : Bool) {x y : A} → (T b → P x) → (T (not b) → P y) → P (cond b x y)
-chosen P true f g = f tt
-chosen P false f g = g tt
+le_or_lt a b = grind arith
 
 pub yes_or : (a b : Bool) → T a ⊎ T b → T (a || b)
-yes_or true b t = tt
-yes_or false b (inl t) = absurd t
-yes_or false b (inr t) = t
+yes_or a b h = grind arith
 
 -- where `?` meets an error, that error is what is returned
 pub err_returned : {T E : Type 0} {r : Result T E} {e : E} → IsErrAnd r (λ d. d ≡ e) → r ≡ Err e

@@ -1,15 +1,13 @@
 -- A rule of a whole list by one test: each entry is at least s above the one before it.
 -- Assumes nothing.
-use mathlib.Core.Path.{◌≡◌, ap, ◌∙◌}
+use mathlib.Core.Path.{◌≡◌}
 use mathlib.Core.Bool.{true, false}
 use mathlib.Core.List.{List, [], ◌∷◌}
-use Prim.Native.Nat.{ℕ, zero, suc, ◌+◌, ◌-◌, ◌≤◌, ◌<◌, zero-le}
+use Prim.Native.Nat.{ℕ, zero, suc, ◌+◌, ◌-◌, ◌≤◌, ◌<◌}
 use native.Mathlib.Omega.{arith}
-use native.Mathlib.Nat.{le_of_suc-le-suc, not-suc-le-zero}
-use lib.Dec.{T, leb, leb→le}
+use native.Mathlib.Nat.{le_of_suc-le-suc}
+use lib.Dec.{T}
 use lib.ListN.{length, get_or, drop}
-use borrow.Author.Tests.{le-leb, lt-leb}
-use mir.Facts.{and_yes}
 use Rattle.laws.specs.Rises.{rises_from, rises_by, NeverFalls}
 use Rattle.laws.specs.Fill.{tab}
 use Rattle.laws.proofs.Fill.{length_tab, get_or_tab}
@@ -17,22 +15,21 @@ use Rattle.laws.proofs.Numbers.{Grows, never_falls}
 
 from_at : (s x : ℕ) (ys : List ℕ) → T (rises_from s x ys) → (i : ℕ) → i < length ys → get_or (x ∷ ys) i 0 + s ≤ get_or ys i 0
 unfolding rises_from
-from_at s x [] t i h = absurd (not-suc-le-zero h)
-from_at s x (y ∷ ys) t zero h = leb→le (x + s) y (and_yes (leb (x + s) y) (rises_from s y ys) t).0
-from_at s x (y ∷ ys) t (suc i) h = from_at s y ys (and_yes (leb (x + s) y) (rises_from s y ys) t).1 i (le_of_suc-le-suc h)
+from_at s x [] t i h = absurd (omega arith)
+from_at s x (y ∷ ys) t zero h = grind arith
+from_at s x (y ∷ ys) t (suc i) h = grind (arith, from_at s y ys)
 
 -- where the test passes, the rule holds at each place
 pub rises_at : (s : ℕ) (xs : List ℕ) → T (rises_by s xs) → (i : ℕ) → suc i < length xs → get_or xs i 0 + s ≤ get_or xs (suc i) 0
 unfolding rises_by
-rises_at s [] t i h = absurd (not-suc-le-zero h)
+rises_at s [] t i h = absurd (omega arith)
 rises_at s (x ∷ xs) t i h = from_at s x xs t i (le_of_suc-le-suc h)
 
 -- where no element is below the one before it, none is below an earlier one
 pub keeps_by_steps : (xs : List ℕ) → ((i : ℕ) → i + 1 < length xs → get_or xs i 0 ≤ get_or xs (i + 1) 0) → NeverFalls xs
-keeps_by_steps xs h = record { keeps = λ i k ik l. never_falls grows i k zero-le ik (omega arith) }
-  where
-    grows : Grows (λ i. get_or xs i 0) 0 0 (length xs - 1)
-    grows = record { step = λ k a b. omega (arith, h k (omega arith)) }
+keeps_by_steps xs h =
+    let grows : Grows (λ i. get_or xs i 0) 0 0 (length xs - 1) = grind (arith, h) in
+    grind (arith, never_falls grows)
 
 -- ---- the test, one entry at a time, as a loop makes it
 
@@ -42,26 +39,22 @@ pub record RisesSoFar (s : ℕ) (xs : List ℕ) (x i : ℕ) : Type 0 where
 
 pub rises_first : (s : ℕ) (xs : List ℕ) (x : ℕ) → xs ≡ x ∷ drop 1 xs → RisesSoFar s xs x 1
 unfolding rises_by
-rises_first s xs x e = record { is = ap (rises_by s) e }
+rises_first s xs x e = grind arith
 
 module _ {s : ℕ} {xs : List ℕ} {x i : ℕ} (h : RisesSoFar s xs x i) where
   module _ (y : ℕ) (e : drop i xs ≡ y ∷ drop (i + 1) xs) where
     pub rises_more : x + s ≤ y → RisesSoFar s xs y (i + 1)
     unfolding rises_from
-    rises_more l = record { is = h.is ∙ ap (rises_from s x) e ∙ simp (le-leb _ _ l) }
+    rises_more l = grind arith
 
     pub rises_not : y < x + s → rises_by s xs ≡ false
     unfolding rises_from
-    rises_not l = h.is ∙ ap (rises_from s x) e ∙ simp (lt-leb _ _ l)
+    rises_not l = grind arith
 
   pub rises_end : drop i xs ≡ [] → rises_by s xs ≡ true
   unfolding rises_from
-  rises_end e = h.is ∙ ap (rises_from s x) e
+  rises_end e = grind arith
 
 -- a list of a function's values never falls where the function does not
 pub tab_keeps : (f : ℕ → ℕ) (n : ℕ) → ((i k : ℕ) → i ≤ k → k < n → f i ≤ f k) → NeverFalls (tab f n)
-tab_keeps f n h = record {
-  keeps = λ i k ik l.
-      let kn : k < n = rw length_tab at l in
-      rw (get_or_tab f n i 0 (omega arith), get_or_tab f n k 0 kn) (h i k ik kn);
-}
+tab_keeps f n h = grind (arith, h, length_tab, get_or_tab f n)

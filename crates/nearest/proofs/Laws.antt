@@ -1,15 +1,13 @@
 -- The laws of the nearest level and of the nearest table.
 -- Assumes nothing.
-use Rattle.std.proofs.Common.{◌≡◌, List, not, ⊎_elim, ℕ, suc, ◌-◌, ◌≤◌, ◌<◌, arith, length, get_or}
-use Rattle.std.proofs.Math.Facts.{T_not, ltb_yes, yes_ltb, clash}
+use Rattle.std.proofs.Common.{◌≡◌, List, not, ℕ, ◌-◌, ◌≤◌, ◌<◌, arith, length, get_or}
 use Rattle.laws.specs.Search.{any}
 use Rattle.laws.specs.Rises.{NeverFalls}
-use Rattle.laws.proofs.Cases.{no_is, le_or_lt}
 use Rattle.laws.proofs.Search.{any_intro, any_none, lowest_is, lowest_top}
 use Rattle.laws.proofs.Rises.{tab_keeps}
 use Rattle.laws.proofs.Fill.{length_tab, get_or_tab}
 use Rattle.nearest.specs.Nearest.{error_at, nearer, nearest_level, nearest_table}
-use Rattle.nearest.proofs.Numbers.{stays_nearer, LowestLeast, some_least}
+use Rattle.nearest.proofs.Numbers.{LowestLeast, some_least}
 
 -- ---- the nearest level
 
@@ -18,18 +16,18 @@ module _ (curve : List ℕ) (t : ℕ) where
   pub nearest_is : {d : ℕ} → LowestLeast (error_at curve t) (length curve) d → nearest_level curve t ≡ d
   unfolding nearest_level
   nearest_is {d} h =
-      lowest_is (λ d. not (any (nearer curve t d) (length curve))) (length curve) d h.inside
-      (no_is (any_none (nearer curve t d) (length curve) (λ e l n. clash (ltb_yes n) (h.least e l))))
-      (λ e l p.
-      let found = any_intro (nearer curve t e) (length curve) d h.inside (yes_ltb (h.first e l)) in
-      T_not (any (nearer curve t e) (length curve)) found p)
+      grind (
+        arith,
+        lowest_is (λ d. not (any (nearer curve t d) (length curve))) (length curve) d,
+        any_none (nearer curve t d) (length curve),
+        λ (e : ℕ). any_intro (nearer curve t e) (length curve) d,
+      )
 
   -- and it is that level
   nearest_has : 1 ≤ length curve → LowestLeast (error_at curve t) (length curve) (nearest_level curve t)
   nearest_has some =
-      let e : suc (length curve - 1) ≡ length curve = omega arith in
       let s = some_least (error_at curve t) (length curve - 1) in
-      rw (nearest_is (rw e at s).is) (rw e at s).is
+      grind (arith, s.is, nearest_is {d = s.at})
 
   nearest_top : nearest_level curve t ≤ length curve
   unfolding nearest_level
@@ -49,16 +47,9 @@ module _ (curve : List ℕ) (t : ℕ) where
 -- on a curve that never falls, the nearest level never falls with the target
 pub nearest_mono : (curve : List ℕ) → NeverFalls curve → (t u : ℕ) → t ≤ u → nearest_level curve t ≤ nearest_level curve u
 nearest_mono curve keeps t u h =
-    ⊎_elim
-    (λ l. l)
-    (λ l.
     let d = nearest_level curve t in
     let e = nearest_level curve u in
-    let inside : d < length curve = nearest_inside curve t (omega (arith, nearest_top curve t)) in
-    clash
-    (stays_nearer (get_or curve e 0) (get_or curve d 0) t u (keeps.keeps e d (omega arith) inside) h (nearest_first curve t e l))
-    (nearest_least curve u d inside))
-    (le_or_lt (nearest_level curve t) (nearest_level curve u))
+    grind (arith, keeps.keeps e d, nearest_top curve t, nearest_inside curve t, nearest_first curve t e, nearest_least curve u d)
 
 -- ---- the nearest table
 
@@ -73,4 +64,4 @@ module _ (curve targets : List ℕ) where
 
   pub table_never_falls : NeverFalls curve → NeverFalls targets → NeverFalls (nearest_table curve targets)
   unfolding nearest_table
-  table_never_falls c t = tab_keeps _ (length targets) (λ i k ik l. nearest_mono curve c (get_or targets i 0) (get_or targets k 0) (t.keeps i k ik l))
+  table_never_falls c t = tab_keeps _ _ (λ i k ik l. nearest_mono curve c _ _ (t.keeps i k ik l))

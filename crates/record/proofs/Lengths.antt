@@ -22,7 +22,7 @@ module _ (s : List ℕ) (job : Job) (h : answer_of s ≡ Ok job) where
   between : (l : Result Counts Refusal) → layout_of s ≡ l → (30 ≤ length s) × (length s ≤ 6250)
   unfolding answer_of sections
   between (Ok n) e = let z = sizes s n e in (omega arith, omega arith)
-  between (Err r) e = cc (simp e at h)
+  between (Err r) e = grind arith
 
   within_lengths : (30 ≤ length s) × (length s ≤ 6250)
   within_lengths = between (layout_of s) refl

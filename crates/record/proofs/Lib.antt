@@ -2,7 +2,6 @@ pub mod Parts
 pub mod Fields
 pub mod Scans
 pub mod Counted
-pub mod Judged
 pub mod Climbing
 pub mod Placed
 pub mod Held

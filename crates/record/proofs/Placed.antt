@@ -1,20 +1,16 @@
 -- Where the sections of a record stand.
 -- Assumes nothing.
 use Prim.Native.Nat.{ℕ, ◌+◌, ◌*◌, ◌≤◌}
-use mathlib.Core.Path.{◌≡◌, refl, subst}
+use mathlib.Core.Path.{◌≡◌, subst}
 use mathlib.Core.List.{List}
-use mathlib.Core.Bool.{true, false≢true}
-use lib.ListN.{length, drop, length-drop}
-use lib.Dec.{eqb, leb}
+use lib.ListN.{length, length-drop}
 use native.Mathlib.Omega.{arith}
-use borrow.Author.Tests.{leb-true, eqb-true}
-use Rattle.std.specs.Prelude.{Result, Ok, Err}
-use Rattle.laws.proofs.Cases.{by}
-use Rattle.record.specs.Sections.{Counts, permitted, count_of, rest, after, ended, layout_of}
+use Rattle.std.specs.Prelude.{Result, Ok}
+use Rattle.record.specs.Sections.{Counts, count_of, rest, after, ended, layout_of}
 use Rattle.record.specs.declared.Section.TheVariants.{Settings, Lamps, Sweep, Check}
 use Rattle.record.specs.declared.Refusal.{Refusal}
 use Rattle.record.proofs.Parts.{counts}
-use Rattle.record.proofs.Counted.{Counted, counted, up_to_1024}
+use Rattle.record.proofs.Counted.{Counted, counted, up_to_most}
 
 -- what is left to read from the lamps, the sweep and the check on
 abbrev pub layout_from_check : (a b c : ℕ) → List ℕ → Result Counts Refusal
@@ -34,8 +30,7 @@ pub record Took (x : Result ℕ Refusal) (F : ℕ → Result Counts Refusal) (n 
   pub more : F m ≡ Ok n
 
 took : (x : Result ℕ Refusal) (F : ℕ → Result Counts Refusal) (n : Counts) → after x F ≡ Ok n → Took x F n
-took (Ok m) F n h = record { m = m; is = refl; more = h }
-took (Err r) F n h = cc h
+took y1 y2 n h = grind arith
 
 -- all four sections are complete, and nothing follows them
 pub record Placed (s : List ℕ) (n : Counts) : Type 0 where
@@ -51,12 +46,7 @@ record Whole (a b c d : ℕ) (n : Counts) (s : List ℕ) : Type 0 where
   none_left : length s ≡ 0
 
 whole : (a b c d : ℕ) (n : Counts) (s : List ℕ) → ended a b c d s ≡ Ok n → Whole a b c d n s
-whole a b c d n s h =
-    by (eqb (length s) 0)
-    (λ p.
-    let f : Ok (counts a b c d) ≡ Ok n = simp p at h in
-    record { is = cc; none_left = eqb-true (length s) 0 p })
-    (λ p. cc (simp p at h))
+whole a b c d n s h = grind arith
 
 pub placed : (s : List ℕ) (n : Counts) → layout_of s ≡ Ok n → Placed s n
 unfolding layout_of
@@ -87,33 +77,7 @@ pub record Sizes (s : List ℕ) (n : Counts) : Type 0 where
   pub check : n.check ≤ 18
   pub whole : 2 + n.settings * 2 + (2 + n.lamps * 2) + (2 + n.sweep * 6) + (2 + n.check * 4) ≡ length s
 
-pub at_least_2 : (n : ℕ) → permitted Sweep n ≡ true → 2 ≤ n
-at_least_2 n h = by (leb 2 n) (leb-true 2 n) (λ p. absurd (false≢true (simp p at h)))
-
-pub up_to_18 : (n : ℕ) → permitted Check n ≡ true → n ≤ 18
-up_to_18 n h = by (eqb n 0) (λ p. omega (arith, eqb-true n 0 p)) (λ p. omega (arith, eqb-true n 18 (simp p at h)))
-
 pub sizes : (s : List ℕ) (n : Counts) → layout_of s ≡ Ok n → Sizes s n
 sizes s n h =
     let p = placed s n h in
-    let a = n.settings in
-    let b = n.lamps in
-    let c = n.sweep in
-    let d = n.check in
-    let l₁ = length-drop (2 + a * 2) s in
-    let l₂ = length-drop (2 + b * 2) (drop (2 + a * 2) s) in
-    let l₃ = length-drop (2 + c * 6) (drop (2 + b * 2) (drop (2 + a * 2) s)) in
-    let l₄ = length-drop (2 + d * 4) (drop (2 + c * 6) (drop (2 + b * 2) (drop (2 + a * 2) s))) in
-    let f₁ : 2 + a * 2 ≤ length s = p.settings.fits in
-    let f₂ : 2 + b * 2 ≤ length (drop (2 + a * 2) s) = p.lamps.fits in
-    let f₃ : 2 + c * 6 ≤ length (drop (2 + b * 2) (drop (2 + a * 2) s)) = p.sweep.fits in
-    let f₄ : 2 + d * 4 ≤ length (drop (2 + c * 6) (drop (2 + b * 2) (drop (2 + a * 2) s))) = p.check.fits in
-    let e : length (drop (2 + d * 4) (drop (2 + c * 6) (drop (2 + b * 2) (drop (2 + a * 2) s)))) ≡ 0 = p.none_left in
-    record {
-      settings = eqb-true a 5 p.settings.may;
-      lamps = leb-true b 8 p.lamps.may;
-      sweep_least = at_least_2 c p.sweep.may;
-      sweep = up_to_1024 Sweep c p.sweep.may;
-      check = up_to_18 d p.check.may;
-      whole = omega arith;
-    }
+    grind (arith, up_to_most, length-drop {A = ℕ})

@@ -17,6 +17,7 @@ use std::marker::Model;
 use target::IndexRange;
 use units::{Ddl, PValue};
 
+// The lines of kinds, by hand: a Display would be written by write! (see `put_text`).
 fn room_text(mark: RoomMark) -> &'static str
     ensures { result.now ≡ room_line mark }
 {
@@ -132,23 +133,17 @@ impl Report {
         report
     }
 
-    // The lines of a job that is not refused. Of a `Calibration` the proof does not reach the bounds of the fields, so they come one by one.
-    fn of_lines(
-        figures: NearestFigures,
-        worst_step: u64,
-        check: Option<Verdict>,
-        nearest: &[u16; 256],
-        even: &[u16; 256],
-    ) -> Self
-        ensures lines { result ≡ lines_of figures worst_step check nearest.now even.now }
+    // The lines of a job that is not refused. By value: of a borrowed struct the proof does not find the bounds of the fields.
+    fn of_lines(made: Calibration) -> Self
+        ensures lines { result ≡ lines_of made.figures made.worst_step made.check made.nearest made.even }
         ensures fits { length result ≤ 4694 }
     {
         let mut report = Self::new();
-        report.put_range(figures.indices);
-        report.put_text(room_text(figures.mark));
-        report.put_even(worst_step);
-        report.put_text(check_text(check));
-        report.put_rows(nearest, even);
+        report.put_range(made.figures.indices);
+        report.put_text(room_text(made.figures.mark));
+        report.put_even(made.worst_step);
+        report.put_text(check_text(made.check));
+        report.put_rows(&made.nearest, &made.even);
         report
     }
 }
@@ -192,13 +187,7 @@ pub fn report_on(bytes: &[u8], work: &mut [u32]) -> Report
     ensures words_kept { WordsKept bytes.now work.old work.new }
 {
     match Calibration::new(bytes, work) {
-        Ok(made) => Report::of_lines(
-            made.figures,
-            made.worst_step,
-            made.check,
-            &made.nearest,
-            &made.even,
-        ),
+        Ok(made) => Report::of_lines(made),
         Err(refusal) => Report::of_refusal(refusal),
     }
 }

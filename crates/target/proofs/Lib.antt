@@ -1,4 +1,3 @@
--- `Laws`: the targets of an index range. `Ranges`: the index range of a display. `Aiming`: the targets, one P-value at a time.
+-- `Laws`: the targets of an index range. `Ranges`: the index range of a display.
 pub mod Laws
 pub mod Ranges
-pub mod Aiming

@@ -36,9 +36,7 @@ pub fn is_clearly_wide(added: Luminance, first: Luminance, last: Luminance) -> b
     let light = u64::from(added.0);
     let black = light + u64::from(first.0);
     let white = light + u64::from(last.0);
-    let dark = (500 <= black) & (black < 82179);
-    let bright = (233990 <= white) & (white <= 39934040);
-    dark & bright
+    (500..82179).contains(&black) & (233990..=39934040).contains(&white)
 }
 
 impl IndexRange {

@@ -3,19 +3,14 @@ use Rattle.std.specs.Prelude.{ℕ, ◌≡◌, List, Option, Some, None, Result, 
 use Rattle.record.specs.Refusals.{refusal_number}
 use Rattle.record.specs.declared.Refusal.{Refusal}
 use Rattle.contrast.specs.declared.Verdict.{Verdict}
-use Rattle.contrast.specs.declared.Verdict.TheVariants.{Pass, Fail}
+use Rattle.contrast.specs.Check.{verdict_number}
 use Rattle.engine.specs.Check.{check_answer, CheckPromise}
 use Rattle.yepidlaw.specs.declared.CheckResult.{CheckResult}
 
--- the verdict in the result, 0 for a check that was not measured; document 01 has words alone
-abbrev pub verdict_number : Option Verdict → ℕ
-verdict_number None = 0
-verdict_number (Some Pass) = 1
-verdict_number (Some Fail) = 2
-
--- refusal 0 and the verdict, or the refusal's number and 0
+-- refusal 0 and the verdict, 0 for a check that was not measured; or the refusal's number and 0
 abbrev pub check_result_of : Result (Option Verdict) Refusal → CheckResult
-check_result_of (Ok verdict) = record { refusal = 0; verdict = verdict_number verdict }
+check_result_of (Ok None) = record { refusal = 0; verdict = 0 }
+check_result_of (Ok (Some verdict)) = record { refusal = 0; verdict = verdict_number verdict }
 check_result_of (Err r) = record { refusal = refusal_number r; verdict = 0 }
 
 -- what a call promises: its result in numbers, and all that the operation promises of its answer and the places

@@ -5,7 +5,7 @@
 ghost use Rattle.std.specs.Prelude.{◌≡◌};
 ghost use Rattle.yepidlaw.specs.Nearest.{nearest_result_of, NearestCall};
 ghost use Rattle.yepidlaw.specs.Even.{even_result_of, EvenCall};
-ghost use Rattle.yepidlaw.specs.Check.{verdict_number, check_result_of, CheckCall};
+ghost use Rattle.yepidlaw.specs.Check.{check_result_of, CheckCall};
 
 use contrast::Verdict;
 use engine::{EvenFigures, NearestFigures};
@@ -100,17 +100,6 @@ pub struct CheckResult {
     pub verdict: u32,
 }
 
-// No From: Option and u32 are both std's, and one of the verdict alone would leave this match for none.
-fn verdict_number(verdict: Option<Verdict>) -> u32
-    ensures { result ≡ verdict_number verdict }
-{
-    match verdict {
-        None => 0,
-        Some(Verdict::Pass) => 1,
-        Some(Verdict::Fail) => 2,
-    }
-}
-
 impl From<Result<Option<Verdict>, Refusal>> for CheckResult {
     ghost from_gives = { λ answer result. result ≡ check_result_of answer };
 
@@ -118,7 +107,7 @@ impl From<Result<Option<Verdict>, Refusal>> for CheckResult {
         match answer {
             Ok(verdict) => CheckResult {
                 refusal: 0,
-                verdict: verdict_number(verdict),
+                verdict: verdict.map_or(0, u32::from),
             },
             Err(refusal) => CheckResult {
                 refusal: refusal.into(),

@@ -1,6 +1,8 @@
-use Rattle.gsdf.proofs.Ends.{above_is}
+-- The end of the table is its entry. Assumes nothing.
+use Rattle.gsdf.specs.Ends.{above_table}
+use Rattle.gsdf.proofs.TableRule.{jnd_last}
 use Rattle.gsdf.proofs.is_above_table.Goals as goal
 
--- The end of the table is its entry. Assumes nothing.
 pub returns : goal.returns
-returns c = rw (c.from.ensures, c.from-2.ensures) (above_is _)
+unfolding above_table
+returns c = rw (c.from.ensures, c.from-2.ensures, jnd_last)

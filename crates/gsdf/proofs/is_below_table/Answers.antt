@@ -1,6 +1,8 @@
-use Rattle.gsdf.proofs.Ends.{below_is}
+-- The end of the table is its entry. Assumes nothing.
+use Rattle.gsdf.specs.Ends.{below_table}
+use Rattle.gsdf.proofs.TableRule.{jnd_first}
 use Rattle.gsdf.proofs.is_below_table.Goals as goal
 
--- The end of the table is its entry. Assumes nothing.
 pub returns : goal.returns
-returns c = rw (c.from.ensures, c.from-2.ensures) (below_is _)
+unfolding below_table
+returns c = rw (c.from.ensures, c.from-2.ensures, jnd_first)

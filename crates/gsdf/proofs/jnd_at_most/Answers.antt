@@ -1,13 +1,11 @@
 -- The number of entries at most l is the last JND at or below l. Assumes nothing.
-use mathlib.Core.Logic.{⊎_elim}
-use Prim.Native.Nat.{ℕ, ◌+◌, ◌-◌, ◌≤◌, ◌<◌, zero-le}
+use Prim.Native.Nat.{ℕ, ◌-◌, ◌≤◌, ◌<◌}
 use native.Mathlib.Omega.{arith}
 use lib.Dec.{leb}
 use borrow.Author.Tests.{leb-true, leb-false}
 use Rattle.std.proofs.Common.{rules}
 use Rattle.std.specs.List.Sorted.{IsPartitionPoint}
 use Rattle.std.proofs.lemmas.List.Sorted.{IsPartitionPoint-from_clause, IsPartitionedBy-leb}
-use Rattle.laws.proofs.Cases.{le_or_lt}
 use Rattle.gsdf.specs.Table.{table_b1}
 use Rattle.gsdf.specs.DisplayFunction.{jnd_luminance}
 use Rattle.gsdf.proofs.TableRule.{table_b1_length, table_b1_never_falls, jnd_first}
@@ -29,12 +27,11 @@ above c j a b = (point c).1 (j - 1) 0 (omega arith) (omega (arith, table_b1_leng
 
 -- l is at least T(1)
 pub returns-clause-first : goal.returns-clause-first
-returns-clause-first c =
-    ⊎_elim (λ none. absurd (omega (arith, jnd_first, above c 1 (omega arith) (omega arith)))) (λ some. some) (le_or_lt c.partition_point.result 0)
+returns-clause-first c = grind (arith, jnd_first, above c 1)
 
 pub returns-clause-at_most : goal.returns-clause-at_most
 unfolding jnd_luminance
-returns-clause-at_most c = (point c).0 (c.partition_point.result - 1) 0 zero-le (omega (arith, returns-clause-first c))
+returns-clause-at_most c = grind (arith, returns-clause-first c, (point c).0 (c.partition_point.result - 1) 0)
 
 pub returns-clause-above : goal.returns-clause-above
-returns-clause-above c = λ inside. above c (c.partition_point.result + 1) (omega arith) (omega arith)
+returns-clause-above c = grind (arith, above c)

@@ -2,28 +2,38 @@
 use native.Mathlib.Omega.{arith}
 use lib.IntN.{ℤ}
 use lib.ListN.{length-take}
-use Rattle.contrast.proofs.Laws.{aims}
-use Rattle.contrast.proofs.Filling.{filling_none, filling_pair, filling_more, filling_all}
+use mir.ValLaws.{to_z-of_z}
+use Rattle.laws.specs.Search.{all}
+use Rattle.laws.proofs.Search.{all_next}
+use Rattle.laws.proofs.Fill.{filled_none, filled_more, filled_all}
+use Rattle.contrast.specs.Check.{at_pair, deviations_of}
+use Rattle.contrast.proofs.Laws.{aims, expected_is, pair_of, deviation_fits}
 use Rattle.contrast.proofs.Patches.fill_deviations.Goals as goal
 
 pub target_at-low-requires : goal.target_at-low-requires
 target_at-low-requires c = (aims c.requires.1 (omega arith) (omega arith), omega arith)
 
 pub loop-i-init : goal.loop-i-init
-loop-i-init c = filling_none c.requires.1 _ _ c.shown-here.ensures c.target_at-low.ensures
+unfolding all
+loop-i-init c = grind (arith, filled_none)
 
 pub target_at-high-requires : goal.target_at-high-requires
 target_at-high-requires c = (aims c.requires.1 (omega arith) (omega arith), omega (arith, length-take {A = ℤ}))
 
 pub invariant_of-pair : goal.invariant_of-pair
-invariant_of-pair c = record {
-  bounded = filling_pair c.requires.1 c.loop-i.invariant (omega arith) (omega arith) (omega (arith, length-take {A = ℤ})) c.shown-next.ensures c.target_at-high.ensures;
-}
+invariant_of-pair c = grind (arith, length-take, pair_of)
 
 pub loop-i-preserved : goal.loop-i-preserved
-loop-i-preserved c =
-    filling_more c.requires.1 c.loop-i.invariant (omega (arith, length-take {A = ℤ})) c.shown-next.ensures c.target_at-high.ensures
-    c.loop-i-test.true _ _ c.deviation.ensures c.keeps_limit-kept.ensures
+unfolding at_pair
+loop-i-preserved c = record {
+  shown_is = c.shown-next.ensures;
+  target_is = c.target_at-high.ensures;
+  filled =
+      filled_more _ _ _ _ _ c.loop-i.invariant.filled c.loop-i-test.true
+      (grind (arith, length-take {A = ℤ}, to_z-of_z, deviation_fits c.requires.1 c.loop-i.i, expected_is c.requires.1));
+  kept_is = grind (arith, all_next, expected_is c.requires.1);
+}
 
 pub returns : goal.returns
-returns c = filling_all c.requires.1 c.loop-i.invariant c.args.deviations.now (omega (arith, length-take {A = ℤ})) c.loop-i-test.false
+unfolding deviations_of
+returns c = grind (arith, filled_all, length-take {A = ℤ})

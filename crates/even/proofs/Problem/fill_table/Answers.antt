@@ -1,14 +1,21 @@
-use Rattle.even.proofs.Making.{some_found, runs_found, make_asks, even_none, even_made}
+use native.Mathlib.Omega.{arith}
+use Rattle.even.specs.Filled.{outcome_of, even_over}
+use Rattle.even.specs.Filling.{first_bound}
+use Rattle.even.proofs.Rows.{kept_all}
 use Rattle.even.proofs.Problem.fill_table.Goals as goal
 
 pub returns-in_err-bound : goal.returns-in_err-bound
-returns-in_err-bound c = rw c.from_residual.ensures (even_none c.in_err-bound.ensures)
+unfolding outcome_of even_over first_bound
+returns-in_err-bound c = rw c.from_residual.ensures (grind (arith, kept_all))
 
 pub invariant_of-found : goal.invariant_of-found
-invariant_of-found c = record { are_runs = runs_found c.in_ok-bound.ensures; some_table = some_found c.in_ok-bound.ensures }
+unfolding first_bound
+invariant_of-found c = grind arith
 
 pub make_table-requires : goal.make_table-requires
-make_table-requires c = make_asks c.in_ok-bound.ensures c.requires
+unfolding first_bound
+make_table-requires c = grind arith
 
 pub returns : goal.returns
-returns c = even_made c.in_ok-bound.ensures c.make_table.ensures
+unfolding outcome_of even_over first_bound
+returns c = grind arith

@@ -1,13 +1,12 @@
 -- One walk over the P-values. Assumes nothing.
 use Prim.Native.Nat.{◌+◌}
 use native.Mathlib.Omega.{arith}
-use Rattle.even.proofs.Bound.{next_value, level, found_none, to_fits, finding_first, run_on, climbs, finding_more, found_all}
+use Rattle.even.proofs.Bound.{level, found_none, to_fits, finding_first, run_on, climbs, finding_more, found_all}
 use Rattle.even.proofs.Problem.find_runs.Goals as goal
 
 pub returns-in_err-run : goal.returns-in_err-run
 returns-in_err-run c =
-    let ok = c.args.self.now.workable in
-    rw c.from_residual.ensures (found_none ok 0 _ _ ok.usable.some_target c.in_err-run.ensures)
+    rw c.from_residual.ensures (found_none c.args.self.now.workable 0 _ _ c.args.self.now.workable.usable.some_target c.in_err-run.ensures)
 
 pub loop-p-init : goal.loop-p-init
 loop-p-init c = finding_first c.args.self.now.workable c.requires c.in_ok-run.ensures
@@ -29,8 +28,8 @@ run_up-requires-in-loop-p-clause-not_above c = run_on c.args.self.now.workable c
 
 pub returns-in_err-next : goal.returns-in_err-next
 returns-in_err-next c =
-    let ok = c.args.self.now.workable in
-    rw c.from_residual-in_err-next.ensures (found_none ok (c.loop-p.p + 1) _ _ (next_value ok _ c.loop-p-test.true) c.in_err-next.ensures)
+    rw c.from_residual-in_err-next.ensures
+    (found_none c.args.self.now.workable (c.loop-p.p + 1) _ _ (omega arith) c.in_err-next.ensures)
 
 pub offset_bounds-self-next : goal.offset_bounds-self-next
 offset_bounds-self-next c = omega (arith, level c.in_ok-next.ensures, c.args.self.now.workable.levels)

@@ -1,5 +1,7 @@
-use Rattle.record.proofs.Climbing.{ends_by}
+use Rattle.std.proofs.Common.{ℕ, arith}
+use Rattle.std.proofs.lemmas.Grind.{common_steps}
+use Rattle.record.proofs.Fields.{field_at}
 use Rattle.record.proofs.Items+Reading.ends_span.Goals as goal
 
 pub returns : goal.returns
-returns c = rw (c.eq.ensures, c.eq-2.ensures) (ends_by _ _ c.args.top.0 c.requires c.get.ensures c.len.ensures c.get-2.ensures)
+returns c = grind (arith, common_steps, field_at {A = ℕ})

@@ -1,5 +1,7 @@
-use Rattle.record.proofs.Climbing.{steps_by}
+use Rattle.std.proofs.Common.{arith}
+use Rattle.std.proofs.lemmas.Grind.{common_steps}
+use Rattle.record.proofs.Fields.{field_at}
 use Rattle.record.proofs.Items+Reading.steps_up.Goals as goal
 
 pub returns : goal.returns
-returns c = rw (c.lt.ensures, c.le.ensures) (steps_by _ _ c.args.i c.requires.0 c.requires.1 c.get-below.ensures c.get-reading.ensures)
+returns c = grind (arith, common_steps, field_at)

@@ -1,12 +1,8 @@
 -- Assumes nothing.
-use mathlib.Core.Path.{◌≡◌, refl}
-use Prim.Native.Nat.{◌+◌}
 use native.Mathlib.Omega.{arith}
-use lib.ListN.{length, take}
 use lib.Seq.{length-take-le}
-use Rattle.laws.proofs.Fill.{filled_none, filled_more}
+use Rattle.laws.proofs.Fill.{filled_none, filled_more, filled_all}
 use Rattle.target.specs.Target.{targets_of}
-use Rattle.target.proofs.Aiming.{filled_all}
 use Rattle.target.proofs.IndexRange.fill_targets.Goals as goal
 
 pub loop-p-init : goal.loop-p-init
@@ -17,7 +13,4 @@ loop-p-preserved c = filled_more _ _ _ _ _ c.loop-p.invariant (omega (arith, c.l
 
 pub returns : goal.returns
 unfolding targets_of
-returns c =
-    let long : length (take (c.from.result + 1) c.args.targets.now) ≡ c.from.result + 1 = length-take-le _ _ (omega arith) in
-    let all : c.loop-p.p ≡ c.args.top.0 + 1 = omega arith in
-    rw (filled_all c.loop-p.invariant c.loop-p-test.false, all, c.from.ensures) refl
+returns c = grind (arith, filled_all, length-take-le)
