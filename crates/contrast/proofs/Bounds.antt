@@ -1,10 +1,12 @@
 -- How large X, Y, X − Y and the deviation of a pair are.
 -- Assumes nothing.
-use Prim.Native.Nat.{ℕ, ◌*◌, ◌≤◌, ◌<◌}
+use Prim.Native.Nat.{ℕ, ◌+◌, ◌-◌, ◌*◌, ◌≤◌, ◌<◌}
+use native.Mathlib.Nat.{mul-le-mul}
 use native.Mathlib.Omega.{arith}
 use lib.IntN.{pos, nat_abs, ◌*ℤ◌}
 use mir.Syntax.{w32, w64}
 use mir.Val.{SFits}
+use Rattle.laws.specs.Numbers.{distance}
 use Rattle.laws.proofs.Signed.{abs_minus, abs_minus_le}
 use Rattle.std.proofs.lemmas.Int.{unsigned_abs-mul}
 use Rattle.contrast.specs.Deviation.{shown_contrast, expected_contrast, excess, deviation_of}
@@ -24,10 +26,16 @@ module _ {p s c h : ℕ} (st : Pair p s c h) where
   unfolding shown_contrast
   pair_top = grind (arith, unsigned_abs-mul, abs_minus)
 
-  -- |X| = |s − p| × (h + c) ≤ (s + p) × (1,699,322 × (h − c)), for h + c is at most 79,868,080 and h − c at least 47
-  excess_by_expected : nat_abs (excess p s c h) ≤ 1699323 * expected_contrast p s c h
-  unfolding excess shown_contrast expected_contrast
-  excess_by_expected = grind (arith, abs_minus_le, unsigned_abs-mul, abs_minus)
+  -- |X| = |s − p| × (h + c) ≤ (s + p) × (289,378 × (h − c)), for h + c is at most 79,868,080 and h − c at least 276
+  shown_by_expected : nat_abs (shown_contrast p s c h) ≤ 289378 * expected_contrast p s c h
+  unfolding shown_contrast expected_contrast
+  shown_by_expected =
+      let m : distance s p * (h + c) ≤ (s + p) * (289378 * (h - c)) = mul-le-mul (omega arith) (omega arith) in
+      grind (arith, unsigned_abs-mul, abs_minus)
+
+  excess_by_expected : nat_abs (excess p s c h) ≤ 289379 * expected_contrast p s c h
+  unfolding excess
+  excess_by_expected = omega (arith, abs_minus_le, shown_by_expected)
 
   pub excess_top : nat_abs (excess p s c h) ≤ 39934040 * 79868080 * 2
   unfolding excess

@@ -65,14 +65,14 @@ module _ {v : ℕ → ℕ} {indices : IndexRange} (s : Covers v indices) where
   pub expected_rises : (i : ℕ) → i < 17 → expected v i + 276 ≤ expected v (i + 1)
   expected_rises i h = grind (arith, expected_is, luminance_next indices.low.0 indices.range.0 17 588, aims_17, s.wide)
 
-  -- two patches are a pair with the targets of any number of steps into each of which 100 indices fit
-  pub pair_of : (steps : ℕ) → 17 ≤ steps → steps ≤ 100 → (i : ℕ) → i < 17
-      → Pair (v i) (v (i + 1)) (target_at indices.low.0 indices.range.0 steps i) (target_at indices.low.0 indices.range.0 steps (i + 1))
-  pair_of steps least most i h = grind (arith, s.inside, target_high, luminance_next indices.low.0 indices.range.0 steps 100, aims_17, s.wide)
+  -- two patches are a pair with the luminances expected there
+  pub pair_of : (i : ℕ) → i < 17
+      → Pair (v i) (v (i + 1)) (expected_luminance indices.low.0 indices.range.0 i) (expected_luminance indices.low.0 indices.range.0 (i + 1))
+  pair_of i h = grind (arith, s.inside, target_high, luminance_next indices.low.0 indices.range.0 17 588, aims_17, s.wide)
 
-  -- so with 17 each pair has a deviation, and it is a number of 32 bits
+  -- so each pair has a deviation, and it is a number of 32 bits
   pub pair_at_lem : (i : ℕ) → i < 17 → Pair (v i) (v (i + 1)) (expected v i) (expected v (i + 1))
-  pair_at_lem i h = rw (← expected_is i, ← expected_is (i + 1)) (pair_of 17 (omega arith) (omega arith) i h)
+  pair_at_lem i h = rw (← expected_is i, ← expected_is (i + 1)) (pair_of i h)
 
   pub deviation_fits : (i : ℕ) → i < 17 → SFits w32 (at_pair deviation_of v i)
   unfolding at_pair

@@ -101,10 +101,10 @@ pub record InPlace (limit : Limit) (v : ℕ → ℕ) (kept : Bool) (before after
   pub places : after ≡ deviations_of v ++ drop 17 before
   pub verdict : kept ≡ all (at_pair (keeps_limit (limit_parts limit)) v) 17
 
--- the luminances of a pair: those shown are in the table, and those expected are 47 or more apart, as 100 indices are, so that the deviation has
--- 32 bits
+-- the luminances of a pair: those shown are in the table, and those expected are 276 or more apart, as 588 indices are (10,000 / 17), so that the
+-- deviation has 32 bits
 pub record Pair (p s c h : ℕ) : Type 0 where
   pub p_in : InTable p
   pub s_in : InTable s
   pub h_top : h ≤ 39934040
-  pub rise : c + 47 ≤ h
+  pub rise : c + 276 ≤ h

@@ -26,7 +26,7 @@ module _ (x : Given) where
   -- ---- tables and paths
 
   -- what is within k is within more
-  path_more : (j k : ℕ) (e : ℕ → ℕ) → j ≤ k → Path (tables_within x j) e → Path (tables_within x k) e
+  path_more : (j k : ℕ) (e : ℕ → ℕ) → j ≤ k → Path (tables_within x j) 0 e → Path (tables_within x k) 0 e
   unfolding step_within
   path_more j k e h u = grind arith
 
@@ -34,18 +34,18 @@ module _ (x : Given) where
   unfolding feasible
   feasible_more j k h s =
       let low = lowest_path_lem (tables_within x j) s in
-      any_intro _ (length x.curve) _ (low.level 0 zero-le)
+      any_intro _ (length x.curve) _ (low.level 0 zero-le zero-le)
       (path_good (tables_within x k) _ 0 zero-le (path_more j k _ h low))
 
   module _ (u : Usable x) where
     -- an allowed table whose worst step is at most k is a path
-    pub table_path : (table : List ℕ) (k : ℕ) → AllowedTable x table → worst_step x table ≤ k → Path (tables_within x k) (λ p. get_or table p 0)
+    pub table_path : (table : List ℕ) (k : ℕ) → AllowedTable x table → worst_step x table ≤ k → Path (tables_within x k) 0 (λ p. get_or table p 0)
     unfolding step_within
     table_path table k a h =
         let most = max_at (λ p. deviation_at x p (get_or table p 0) (get_or table (suc p) 0)) (length x.targets - 1) in
         grind (arith, is_allowed x)
 
-    module _ (table : List ℕ) (k : ℕ) (path : Path (tables_within x k) (λ p. get_or table p 0)) where
+    module _ (table : List ℕ) (k : ℕ) (path : Path (tables_within x k) 0 (λ p. get_or table p 0)) where
       -- and back
       pub path_allowed : length table ≡ length x.targets → AllowedTable x table
       unfolding step_within
@@ -59,7 +59,7 @@ module _ (x : Given) where
     at_tab : (e : ℕ → ℕ) (p : ℕ) → p ≤ length x.targets - 1 → get_or (tab e (length x.targets)) p 0 ≡ e p
     at_tab e p l = get_or_tab e (length x.targets) p 0 (omega arith)
 
-    path_tab : (k : ℕ) (e : ℕ → ℕ) → Path (tables_within x k) e → Path (tables_within x k) (λ p. get_or (tab e (length x.targets)) p 0)
+    path_tab : (k : ℕ) (e : ℕ → ℕ) → Path (tables_within x k) 0 e → Path (tables_within x k) 0 (λ p. get_or (tab e (length x.targets)) p 0)
     path_tab k e v = grind (arith, at_tab e)
 
     -- ---- no table
@@ -115,7 +115,7 @@ module _ (x : Given) where
 
       -- ---- the table computed is the even table
 
-      pub even_path : Path (tables_within x (least_worst x)) (lowest_path (tables_within x (least_worst x)))
+      pub even_path : Path (tables_within x (least_worst x)) 0 (lowest_path (tables_within x (least_worst x)))
       unfolding feasible
       even_path = lowest_path_lem (tables_within x (least_worst x)) least_feasible
 
@@ -123,7 +123,7 @@ module _ (x : Given) where
       unfolding even_table
       even_at p l = at_tab _ p l
 
-      table_path_even : Path (tables_within x (least_worst x)) (λ p. get_or (even_table x) p 0)
+      table_path_even : Path (tables_within x (least_worst x)) 0 (λ p. get_or (even_table x) p 0)
       unfolding even_table
       table_path_even = path_tab (least_worst x) _ even_path
 

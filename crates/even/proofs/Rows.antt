@@ -1,6 +1,6 @@
 -- The rows of lit levels: a row filled from the next one holds the levels from which an allowed table goes on.
 -- Assumes nothing.
-use Prim.Native.Nat.{ℕ, suc, ◌-◌, ◌≤◌, ◌<◌}
+use Prim.Native.Nat.{ℕ, suc, ◌-◌, ◌≤◌, ◌<◌, zero-le}
 use mathlib.Core.Path.{◌≡◌, refl, ap, ap₂, ◌∙◌}
 use mathlib.Core.Logic.{inr}
 use mathlib.Core.Bool.{Bool, false, ◌&&◌, and_assoc, and_comm}
@@ -19,7 +19,7 @@ use Rattle.even.specs.Runs.{run_from, run_to}
 use Rattle.even.specs.Steps.{least_step, most_step}
 use Rattle.even.specs.Filled.{Workable, KeptFrom}
 use Rattle.even.specs.Filling.{lit_at, RowsGood, LastLit}
-use Rattle.even.proofs.Paths.{good_step, good_last, lowest_path_lem, path_good}
+use Rattle.even.proofs.Paths.{good_step, good_last, lowest_path_lem, path_from, path_good}
 use Rattle.even.proofs.Runs.{allowed_run}
 use Rattle.even.proofs.Steps.{step_fits_lem}
 
@@ -83,8 +83,8 @@ module _ {x : Given} (ok : Workable x) where
   unfolding feasible
   good_along k p l f =
       let path = lowest_path_lem (tables_within x k) f in
-      any_intro _ (length x.curve) _ (path.level p (omega arith))
-      (path_good (tables_within x k) _ p (omega arith) path)
+      any_intro _ (length x.curve) _ (path.level p (omega arith) (omega arith))
+      (path_good (tables_within x k) _ p (omega arith) (path_from (tables_within x k) _ 0 p zero-le path))
 
   pub row_empty : (k p : ℕ) → p < length x.targets → any (good_at x k p) (length x.curve) ≡ false → false ≡ feasible x k
   row_empty k p l e = grind (arith, good_along k p l)

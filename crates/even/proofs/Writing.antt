@@ -25,7 +25,7 @@ use Rattle.even.specs.Runs.{run_from, run_to, run_of}
 use Rattle.even.specs.Filled.{Workable}
 use Rattle.even.specs.Steps.{least_step, most_step, IsSpan}
 use Rattle.even.specs.Filling.{WriteAsks}
-use Rattle.even.proofs.Paths.{Path, path_good, lowest_path_lem, next_good, next_is}
+use Rattle.even.proofs.Paths.{Path, path_from, path_good, lowest_path_lem, next_good, next_is}
 use Rattle.even.proofs.Runs.{reaching_top}
 use Rattle.even.proofs.Steps.{step_fits_lem}
 
@@ -154,7 +154,7 @@ pub record Writing (x : Given) (k : ℕ) (before after : List ℕ) (p d : ℕ) :
   pub entries : Filled (lowest_path (tables_within x k)) before after (p + 1)
 
 module _ {x : Given} {k : ℕ} {words before : List ℕ} (ok : Workable x) (asks : WriteAsks x k words before) where
-  path : Path (tables_within x k) (lowest_path (tables_within x k))
+  path : Path (tables_within x k) 0 (lowest_path (tables_within x k))
   unfolding feasible
   path = lowest_path_lem (tables_within x k) (yes_is asks.some)
 
@@ -163,7 +163,7 @@ module _ {x : Given} {k : ℕ} {words before : List ℕ} (ok : Workable x) (asks
   row_there p l is = rw is (grind (arith, reaching_top x.curve))
 
   path_small : (p : ℕ) → p < length x.targets → lowest_path (tables_within x k) p < length x.curve
-  path_small p l = path.level p (omega arith)
+  path_small p l = path.level p (omega arith) (omega arith)
 
   -- ---- the first P-value
 
@@ -201,7 +201,7 @@ module _ {x : Given} {k : ℕ} {words before : List ℕ} (ok : Workable x) (asks
       good_here : T (good_at x k p d)
       good_here =
           rw w.level_is
-          (path_good (tables_within x k) _ p (omega (arith, w.value)) path)
+          (path_good (tables_within x k) _ p (omega (arith, w.value)) (path_from (tables_within x k) _ 0 p zero-le path))
 
       -- a search that asks no more than the step finds a level
       module _ (low : ℕ) (small : low ≤ F x d + least) (found : Option ℕ)

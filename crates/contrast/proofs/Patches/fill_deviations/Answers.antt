@@ -21,7 +21,11 @@ pub target_at-high-requires : goal.target_at-high-requires
 target_at-high-requires c = (aims c.requires.1 (omega arith) (omega arith), omega (arith, length-take {A = ℤ}))
 
 pub invariant_of-pair : goal.invariant_of-pair
-invariant_of-pair c = grind (arith, length-take, pair_of)
+invariant_of-pair c = record {
+  bounded =
+      rw (c.loop-i.invariant.shown_is, c.shown-next.ensures, c.loop-i.invariant.target_is, c.target_at-high.ensures)
+      (pair_of c.requires.1 _ (omega (arith, length-take {A = ℤ})));
+}
 
 pub loop-i-preserved : goal.loop-i-preserved
 unfolding at_pair
