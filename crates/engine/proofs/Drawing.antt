@@ -1,11 +1,11 @@
--- From a job that passed all tests to its curve and its targets in two arrays.
+-- From a job that passed all tests to its curve and its targets.
 -- Assumes nothing.
 use mathlib.Core.Path.{◌≡◌, ap, ◌∙◌}
 use mathlib.Core.List.{List, ◌++◌, append-nil}
 use Prim.Native.Nat.{ℕ, ◌+◌, ◌≤◌}
 use native.Mathlib.Nat.{pow-le-pow_right}
 use native.Mathlib.Omega.{arith}
-use lib.ListN.{length, take, drop, length-append, drop_of_length-le}
+use lib.ListN.{length, take, drop, drop_of_length-le}
 use lib.Seq.{take_at}
 use Rattle.record.specs.Sections.{sections, ddls_in, luminances_in}
 use Rattle.record.specs.Reader.{ddls_of, luminances_of}
@@ -21,15 +21,17 @@ use Rattle.engine.proofs.Reading.{sound, measurable}
 
 -- by the highest level
 module _ {bytes : List ℕ} {tested : TestedJob} (p : PassedTests bytes tested) (top : ℕ) (et : top ≡ top_of tested.job) where
+  pub highest : top ≤ 1023
+  highest = omega (arith, pow-le-pow_right {n = 2} (omega arith) (measurable bytes p.accepted).depth_high)
+
   pub job_drawable : (curve : List ℕ) → length curve ≡ 1024 → Drawable (ddls_of tested.found.sweep) (luminances_of tested.found.sweep) top tested.light.added.0 curve
   job_drawable curve l =
       let m = measurable bytes p.accepted in
-      let high : top_of tested.job ≤ 1023 = omega (arith, pow-le-pow_right {n = 2} (omega arith) m.depth_high) in
       let d : Drawable (ddls_in (sections bytes)) (luminances_in (sections bytes)) top tested.light.added.0 curve = rw (p.light, et) (record {
         sweep = m.sweep;
         wide = rw (← m.sweep.pairs) (omega (arith, (passed _ _ tested.indices p.wide).high));
-        levels = omega arith;
-        fits = omega arith;
+        levels = omega (arith, highest);
+        fits = omega (arith, highest);
       }) in
       rw (← p.read.lists) at d
 
@@ -37,7 +39,7 @@ module _ {bytes : List ℕ} {tested : TestedJob} (p : PassedTests bytes tested) 
       → curve₁ ≡ curve_of tested.light.added.0 (ddls_of tested.found.sweep) (luminances_of tested.found.sweep) top ++ drop (top + 1) curve₀
       → targets₁ ≡ targets_of tested.indices.low.0 tested.indices.range.0 255 ++ drop 256 targets₀
       → length targets₀ ≡ 256
-      → Drawn bytes tested (top + 1) curve₁ targets₁
+      → Drawn bytes tested (take (top + 1) curve₁) targets₁
   job_drawn {curve₁ = curve₁} {targets₁ = targets₁} curve₀ targets₀ ec ea l =
       let job = tested.job in
       let whole = curve_of (added_of job) (ddls_in (sections bytes)) (luminances_in (sections bytes)) (top_of job) in
@@ -46,7 +48,4 @@ module _ {bytes : List ℕ} {tested : TestedJob} (p : PassedTests bytes tested) 
       let ec' : curve₁ ≡ whole ++ drop (top_of job + 1) curve₀ = ec ∙ rw (← p.read.lists, p.light, et) in
       let front : take (top + 1) curve₁ ≡ whole = rw (et, ec') (take_at whole (drop (top_of job + 1) curve₀) (top_of job + 1) lc) in
       let values : targets₁ ≡ all = ea ∙ ap (λ (xs : List ℕ). all ++ xs) (drop_of_length-le targets₀ {i = 256} (omega arith)) ∙ append-nil all in
-      record {
-        fits = rw (ec', length-append) (omega (arith, lc, et));
-        is = rw (front, values) (sound p);
-      }
+      record { is = rw (front, values) (sound p) }

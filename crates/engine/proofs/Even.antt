@@ -5,7 +5,7 @@ use mathlib.Core.Path.{◌≡◌, refl, sym, ap, ◌∙◌}
 use mathlib.Core.List.{List}
 use mathlib.Core.Bool.{true, false}
 use native.Mathlib.Omega.{arith}
-use lib.ListN.{length, take}
+use lib.ListN.{length}
 use Rattle.std.specs.Prelude.{Option, Result, Err, ok_or, Ok}
 use Rattle.laws.proofs.Cases.{by}
 use Rattle.record.specs.declared.Refusal.{Refusal}
@@ -15,11 +15,11 @@ use Rattle.even.specs.Table.{has_no_table}
 use Rattle.even.specs.Filled.{given, outcome_of, Workable, EvenFilled}
 use Rattle.engine.specs.declared.EvenFigures.{EvenFigures}
 use Rattle.engine.specs.Sound.{soundness}
-use Rattle.engine.specs.Even.{outcome_answer, too_little, even_answer, even_lent, Enough, EvenPromise}
+use Rattle.engine.specs.Even.{outcome_answer, too_little, even_answer, even_lent, EvenPromise}
 use Rattle.engine.specs.Drawing.{Drawn}
 use Rattle.engine.specs.declared.TestedJob.{TestedJob}
 use Rattle.engine.proofs.EvenTerms.{workable_within}
-use Rattle.engine.proofs.EvenOutcomes.{lent_enough, promised}
+use Rattle.engine.proofs.EvenOutcomes.{promised}
 use Rattle.engine.proofs.Soundness.{sound_job}
 
 -- the answer by what the table's function gives
@@ -35,12 +35,12 @@ words_kept : (x : Given) {before after words words_after : List ℕ} {outcome : 
 unfolding outcome_of
 words_kept x h r e = by (has_no_table x) h.words_without_table (λ f. cc (simp (h.answers, f) at e))
 
-module _ {bytes curve targets : List ℕ} {tested : TestedJob} {levels : ℕ} (d : Drawn bytes tested levels curve targets) where
+module _ {bytes curve targets : List ℕ} {tested : TestedJob} (d : Drawn bytes tested curve targets) where
   pub error_high : tested.job.settings.tolerance ≤ 1000
   error_high = (sound_job _ _ d.is).tolerance
 
   -- a job that is drawn is a problem of the even table, with any allowed error in range
-  pub curve_workable : (tolerance : ℕ) → tolerance ≤ 1000 → Workable (given (take levels curve) targets tolerance)
+  pub curve_workable : (tolerance : ℕ) → tolerance ≤ 1000 → Workable (given curve targets tolerance)
   curve_workable tolerance h = workable_within (sound_job _ _ d.is) tolerance h
 
 module _ (bytes before words : List ℕ) where
@@ -59,9 +59,9 @@ module _ (bytes before words : List ℕ) where
     even_back r e =
         unchanged r (simp (long, e)) (simp (long, e))
 
-    module _ {tested : TestedJob} {levels : ℕ} {curve targets : List ℕ} (d : Drawn bytes tested levels curve targets) where
+    module _ {tested : TestedJob} {curve targets : List ℕ} (d : Drawn bytes tested curve targets) where
       pub even_filled : {after words_after : List ℕ} {outcome : Option ℕ} {answer : Result EvenFigures Refusal}
-          → EvenFilled (given (take levels curve) targets tested.job.settings.tolerance) before after words words_after outcome → answer ≡ outcome_answer outcome
+          → EvenFilled (given curve targets tested.job.settings.tolerance) before after words words_after outcome → answer ≡ outcome_answer outcome
           → EvenPromise bytes before after words words_after answer
       unfolding even_answer even_lent
       even_filled h a =

@@ -4,7 +4,7 @@ use mathlib.Core.Path.{◌≡◌}
 use mathlib.Core.List.{List}
 use Prim.Native.Nat.{ℕ, ◌≤◌, ◌<◌}
 use native.Mathlib.Omega.{arith}
-use lib.ListN.{length, take, get_or}
+use lib.ListN.{length, get_or}
 use borrow.Author.Tests.{le-ltb, lt-ltb}
 use Rattle.std.specs.Prelude.{Ok, Err}
 use Rattle.laws.specs.Rises.{NeverFalls}
@@ -36,12 +36,12 @@ module _ (bytes before : List ℕ) where
     unfolding nearest_answer nearest_lent
     back r e = promised _ _ _ _ (simp (le-ltb _ _ long, e)) (simp (le-ltb _ _ long, e))
 
-    module _ {tested : TestedJob} {levels : ℕ} {curve targets : List ℕ} (d : Drawn bytes tested levels curve targets) where
-      pub fillable : Fillable (take levels curve) targets before
+    module _ {tested : TestedJob} {curve targets : List ℕ} (d : Drawn bytes tested curve targets) where
+      pub fillable : Fillable curve targets before
       fillable = let known = sound_job bytes _ d.is in grind (arith, targets_keep known)
 
       pub filled : {mark : RoomMark} (after : List ℕ) (error : Luminance) → mark ≡ room_mark (room_of tested.job) (get_or (luminances_in (sections bytes)) 0 0)
-          → Filled (take levels curve) targets before after error.0
+          → Filled curve targets before after error.0
           → NearestPromise bytes before after (Ok (record { indices = tested.indices; mark = mark; error = error }))
       unfolding nearest_answer nearest_lent
       filled after error m h = promised _ _ _ _ (simp (le-ltb _ _ long, d.is) (rw (m, ← h.largest))) (simp (le-ltb _ _ long, d.is) h.table)

@@ -1,5 +1,5 @@
 -- What stands between tests 2 to 10 of a record and its tables: what its functions ask and promise.
-use Rattle.std.specs.Prelude.{ℕ, ◌+◌, ◌-◌, ◌≤◌, ◌≡◌, List, Result, Ok, length, get_or, take}
+use Rattle.std.specs.Prelude.{ℕ, ◌+◌, ◌-◌, ◌≡◌, List, Result, Ok, length, get_or}
 use Rattle.record.specs.Sections.{sections, luminances_in}
 use Rattle.record.specs.Tests.{answer_of}
 use Rattle.record.specs.Reader.{ReadFrom}
@@ -30,12 +30,11 @@ pub record PassedTests (bytes : List ℕ) (tested : TestedJob) : Type 0 where
 abbrev pub SomeRecord : TestedJob → Type 0
 SomeRecord tested = (bytes : List ℕ) × PassedTests bytes tested
 
--- a record is sound, with its curve at the front of an array and its targets in another
-pub record Drawn (bytes : List ℕ) (tested : TestedJob) (levels : ℕ) (curve targets : List ℕ) : Type 0 where
-  pub fits : levels ≤ length curve
+-- a record is sound, with this curve and these targets
+pub record Drawn (bytes : List ℕ) (tested : TestedJob) (curve targets : List ℕ) : Type 0 where
   pub is : soundness bytes ≡ Ok (record {
     accepted = tested.job;
-    curve = take levels curve;
+    curve = curve;
     targets = targets;
     indices = tested.indices;
     mark = room_mark (room_of tested.job) (get_or (luminances_in (sections bytes)) 0 0);

@@ -92,16 +92,16 @@ fn test_record(bytes: &[u8]) -> Result<TestedJob<'_>, Refusal>
 }
 
 impl TestedJob<'_> {
-    // The curve into the front of an array, and the targets into another; how many levels the curve has. The arrays are the caller's, since a struct of
-    // both would be copied, and there is no heap.
-    fn draw(&self, curve: &mut [u32; 1024], targets: &mut [u32; 256]) -> usize
+    // The curve, at the front of an array, and the targets, in another. The arrays are the caller's, since a struct of both would be copied, and there is
+    // no heap.
+    fn draw<'c>(&self, levels: &'c mut [u32; 1024], targets: &mut [u32; 256]) -> &'c [u32]
         requires { SomeRecord self.now }
-        ensures { (bytes : List ℕ) → PassedTests bytes self.now → Drawn bytes self.now result curve.new targets.new }
+        ensures { (bytes : List ℕ) → PassedTests bytes self.now → Drawn bytes self.now result.now targets.new }
     {
         let top = record::max_ddl(self.job.settings.depth);
-        curve::fill_curve(&self.found.sweep, top, self.light.added, curve);
+        curve::fill_curve(&self.found.sweep, top, self.light.added, levels);
         self.indices.fill_targets(PValue(255), targets);
-        usize::from(top.0) + 1
+        &levels[..=usize::from(top.0)]
     }
 }
 
@@ -113,10 +113,10 @@ pub fn nearest_table(bytes: &[u8], table: &mut [u16]) -> Result<NearestFigures, 
         return Err(Refusal::LentTooShort);
     }
     let tested = test_record(bytes)?;
-    let mut curve = [0u32; 1024];
+    let mut levels = [0u32; 1024];
     let mut targets = [0u32; 256];
-    let levels = tested.draw(&mut curve, &mut targets);
-    let error = nearest::fill_table(&curve[..levels], &targets, table);
+    let curve = tested.draw(&mut levels, &mut targets);
+    let error = nearest::fill_table(curve, &targets, table);
     let first = tested.found.sweep.get(0);
     let mark = curve::room_mark(tested.light.room, first.luminance);
     Ok(NearestFigures {
@@ -141,11 +141,11 @@ pub fn even_table(bytes: &[u8], table: &mut [u16], work: &mut [u32]) -> Result<E
         return Err(Refusal::LentTooShort);
     }
     let tested = test_record(bytes)?;
-    let mut curve = [0u32; 1024];
+    let mut levels = [0u32; 1024];
     let mut targets = [0u32; 256];
-    let levels = tested.draw(&mut curve, &mut targets);
+    let curve = tested.draw(&mut levels, &mut targets);
     let problem = Problem {
-        curve: &curve[..levels],
+        curve,
         targets: &targets,
         tolerance: tested.job.settings.tolerance,
     };

@@ -79,11 +79,10 @@ impl<'a> Place<'a> {
         requires { PlaceOf self.curve.now target.0 self }
         ensures { EntryOf self.entry.curve.now target.0 result }
     {
-        let curve = self.curve;
         let mut nearest = self.below;
         let mut error = self.dark.0.abs_diff(target.0);
-        if self.above < curve.len() {
-            let upper = curve[self.above] - target.0;
+        if let Some(bright) = self.curve.get(self.above) {
+            let upper = bright - target.0;
             if upper < error {
                 nearest = self.above;
                 error = upper;
