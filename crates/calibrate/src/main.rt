@@ -49,7 +49,7 @@ impl Front {
         ensures taken { Consumes (R.remaining input.old) (R.remaining input.new) self.new }
         ensures whole { OnOk result (length self.new < 6251 → IsAtEnd (R.remaining input.new)) }
     {
-        // No `for`: it counts what was read, and ends where the input does.
+        // No `for`: it ends where the input does. Std's `copy` would say nothing of what was read before a read that fails.
         while self.size < 6251 {
             match input.read(&mut self.bytes[self.size..])? {
                 0 => break,

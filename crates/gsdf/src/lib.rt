@@ -88,7 +88,7 @@ pub fn index_of(l: Luminance) -> JndIndex
 }
 
 // A reading with the light added to it, against the ends of Table B-1. Their sum may need more than 32 bits.
-// Two functions: refusals 8 and 9 ask each one alone.
+// Two functions: tests 8 and 9 ask one each, of two readings.
 pub fn is_below_table(added: Luminance, reading: Luminance) -> bool
     ensures { result ≡ below_table (added.0 + reading.0) }
 {
