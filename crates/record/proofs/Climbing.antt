@@ -1,15 +1,18 @@
--- The sweep of a record, walked step by step: levels that rise and luminances that do not fall.
+-- The sweep of a record: levels that rise and luminances that do not fall.
 -- Assumes nothing.
-use Prim.Native.Nat.{ℕ, ◌+◌, ◌-◌, ◌*◌, ◌≤◌, ◌<◌}
-use mathlib.Core.Path.{◌≡◌}
-use mathlib.Core.List.{List, ◌∷◌}
-use mathlib.Core.Bool.{Bool, true, false}
-use lib.ListN.{length, get_or, drop, drop_of_length-le}
-use Rattle.std.proofs.lemmas.List.{drop_more}
+use Rattle.std.specs.Prelude.{Option, Some, None, MatchOption, MatchBool, IfSome, is_none}
+use Prim.Native.Nat.{ℕ, zero, suc, ◌+◌, ◌-◌, ◌*◌, ◌≤◌, ◌<◌}
+use mathlib.Core.Path.{◌≡◌, sym}
+use mathlib.Core.List.{List, [], ◌∷◌}
+use mathlib.Core.Bool.{Bool, true, false, ◌&&◌}
+use lib.ListN.{length, get_or, drop}
 use native.Mathlib.Omega.{arith}
-use Rattle.laws.proofs.Rises.{RisesSoFar, rises_first, rises_more, rises_not, rises_end}
+use Rattle.std.proofs.lemmas.Bool.{false_from_ne_true}
+use Rattle.std.proofs.lemmas.Float.{T_from_true}
+use Rattle.laws.specs.Rises.{rises_from, rises_by}
+use Rattle.laws.proofs.Rises.{rises_at}
 use Rattle.record.specs.Bytes.{word, long, fields}
-use Rattle.record.specs.Reader.{steps_up, LevelsRise, Climbed}
+use Rattle.record.specs.Reader.{steps_up, LevelsRise}
 use Rattle.record.specs.declared.items.Reading.{Reading}
 use Rattle.record.proofs.Fields.{fields_length, field_at}
 
@@ -26,34 +29,44 @@ module _ (n : ℕ) (s : List ℕ) where
   pub luminance_at : (i : ℕ) {r : Reading} → i < n → ReadAt i r → (x : ℕ) → r.luminance.0 ≡ get_or (fields 6 (long 2) n s) i x
   luminance_at i h e x = rw (e, field_at 6 (long 2) n s i x h)
 
-  -- what is left of the levels, with the one there
-  pub next_ddl : (i : ℕ) {r : Reading} → i < n → ReadAt i r → drop i (fields 6 (word 0) n s) ≡ r.ddl.0 ∷ drop (i + 1) (fields 6 (word 0) n s)
-  next_ddl i h e = rw (ddl_at i h e 0) (drop_more _ i 0 (rw fields_length h))
+-- ---- a list that rises, by its places
 
--- both tests go by what stands from the reading before place i on
-pub record ClimbsSoFar (dd lu : List ℕ) (i : ℕ) : Type 0 where
-  pub ddls : RisesSoFar 1 dd (get_or dd (i - 1) 0) i
-  pub luminances : RisesSoFar 0 lu (get_or lu (i - 1) 0) i
+module _ (s : ℕ) where
+  from_places : (x : ℕ) (ys : List ℕ) → ((k : ℕ) → k < length ys → get_or (x ∷ ys) k 0 + s ≤ get_or ys k 0) → rises_from s x ys ≡ true
+  unfolding rises_from
+  from_places x [] h = grind arith
+  from_places x (y ∷ ys) h = grind (arith, h 0, from_places y ys (λ k l. h (suc k) (omega arith)))
 
-module _ {dd lu : List ℕ} {n : ℕ} (dds : length dd ≡ n) (lus : length lu ≡ n) where
-  pub climbs_first : 1 ≤ n → ClimbsSoFar dd lu 1
-  climbs_first h = grind (arith, rises_first 1 _ _ (drop_more dd 0 0 (omega arith)), rises_first 0 _ _ (drop_more lu 0 0 (omega arith)))
+  pub rises : (xs : List ℕ) → ((k : ℕ) → 1 ≤ k → k < length xs → get_or xs (k - 1) 0 + s ≤ get_or xs k 0) → rises_by s xs ≡ true
+  unfolding rises_by
+  rises [] h = grind arith
+  rises (x ∷ xs) h = from_places x xs (λ k l. grind (arith, h (suc k)))
 
-  module _ {i : ℕ} (h : ClimbsSoFar dd lu i) where
-    module _ (l : i < n) {up : Bool} (e : up ≡ steps_up dd lu i) where
-      -- the walk goes on
-      pub climbs_more : up ≡ true → ClimbsSoFar dd lu (i + 1)
-      climbs_more t = grind (arith, rises_more h.ddls _ (drop_more dd i 0 (omega arith)), rises_more h.luminances _ (drop_more lu i 0 (omega arith)))
+  pub rises_not : (xs : List ℕ) (k : ℕ) → 1 ≤ k → k < length xs → get_or xs k 0 < get_or xs (k - 1) 0 + s → rises_by s xs ≡ false
+  rises_not xs zero a b c = absurd (omega arith)
+  rises_not xs (suc k) a b c = false_from_ne_true _ (λ e. grind (arith, rises_at s xs (T_from_true _ e) k))
 
-      -- it ends before the end of the sweep
-      pub climbed_part : 1 ≤ i → up ≡ false → Climbed dd lu i
-      climbed_part some t = grind (arith, rises_not h.luminances _ (drop_more lu i 0 (omega arith)), rises_not h.ddls _ (drop_more dd i 0 (omega arith)))
+-- ---- what the two searches find
 
-    -- or at it
-    pub climbed_all : {m : ℕ} → 1 ≤ i → n ≤ i → i ≡ m → m ≡ n → Climbed dd lu m
-    climbed_all some l e f = grind (arith, rises_end h.ddls, rises_end h.luminances, drop_of_length-le)
+-- r is the first reading of n that does not step up
+abbrev pub FirstFault : (dd lu : List ℕ) (n : ℕ) → Option ℕ → Type 0
+FirstFault dd lu n r = MatchOption r ((k : ℕ) → 1 ≤ k → k < n → steps_up dd lu k ≡ true) (λ i. (1 ≤ i) × (i < n) × (steps_up dd lu i ≡ false) × ((k : ℕ) → 1 ≤ k → k < i → steps_up dd lu k ≡ true))
 
--- ---- the levels alone, from where it ended
+module _ (dd lu : List ℕ) {n : ℕ} (dds : length dd ≡ n) where
+  pub all_step_up : length lu ≡ n → (r : Option ℕ) → FirstFault dd lu n r → is_none r ≡ (rises_by 1 dd && rises_by 0 lu)
+  all_step_up lus None up = grind (arith, rises 1 dd (λ k a b. grind (arith, up k)), rises 0 lu (λ k a b. grind (arith, up k)))
+  all_step_up lus (Some i) (a, b, c, up) = grind (arith, rises_not 1 dd i, rises_not 0 lu i)
 
-pub levels_from : {dd : List ℕ} {i : ℕ} → LevelsRise dd i → {x : ℕ} → x ≡ get_or dd (i - 1) 0 → RisesSoFar 1 dd x i
-levels_from h e = grind arith
+  pub rise_before : (r : Option ℕ) → FirstFault dd lu n r → IfSome r (LevelsRise dd)
+  rise_before None up = tt
+  rise_before (Some i) (a, b, c, up) = record { some = a; is = λ k l m. grind (arith, up k) }
+
+-- the level of reading k, as it is read
+abbrev pub level_at : List ℕ → ℕ → ℕ
+level_at s k = word 0 (drop (k * 6) s)
+
+pub rise_after : (n : ℕ) (s : List ℕ) {i : ℕ} → LevelsRise (fields 6 (word 0) n s) i → (r : Bool)
+    → MatchBool r ((k : ℕ) → i ≤ k → k < n → level_at s (k - 1) < level_at s k) ((k : ℕ) × (i ≤ k) × (k < n) × (level_at s k ≤ level_at s (k - 1)))
+    → r ≡ rises_by 1 (fields 6 (word 0) n s)
+rise_after n s h true up = sym (rises 1 _ (λ k a b. grind (arith, h.is k, up k, fields_length 6 (word 0) n s, field_at 6 (word 0) n s)))
+rise_after n s h false (k, a, b, c) = sym (rises_not 1 _ k (omega (arith, h.some)) (rw fields_length b) (grind (arith, h.some, field_at 6 (word 0) n s)))

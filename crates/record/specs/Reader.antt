@@ -1,9 +1,8 @@
 -- What the readers of a record ask and promise.
-use Rattle.std.specs.Prelude.{ℕ, ◌+◌, ◌-◌, ◌≤◌, ◌<◌, List, Bool, true, false, ◌&&◌, ◌≡◌, T, length, drop, get_or, leb, Result, Ok}
-use Rattle.laws.specs.Rises.{rises_from, rises_by}
+use Rattle.std.specs.Prelude.{ℕ, ◌+◌, ◌-◌, ◌≤◌, ◌<◌, List, Bool, ◌&&◌, ◌≡◌, T, get_or, leb, Result, Ok}
 use Rattle.record.specs.Bytes.{word, long, fields}
 use Rattle.record.specs.Sections.{permitted, count_of, items, rest, after, Lists, sections}
-use Rattle.record.specs.Tests.{is_never_falling, answer_of}
+use Rattle.record.specs.Tests.{answer_of}
 use Rattle.record.specs.declared.Section.{Section}
 use Rattle.record.specs.declared.Refusal.{Refusal}
 use Rattle.record.specs.declared.items.Field.{Ghosts}
@@ -33,17 +32,10 @@ pub record Taken (k : Section) (s : List ℕ) (n : ℕ) (found more : List ℕ) 
 abbrev pub steps_up : (ddls luminances : List ℕ) (i : ℕ) → Bool
 steps_up ddls luminances i = leb (get_or ddls (i - 1) 0 + 1) (get_or ddls i 0) && leb (get_or luminances (i - 1) 0 + 0) (get_or luminances i 0)
 
--- all levels rise where they do from the one before place i on
+-- the levels before place i rise
 pub record LevelsRise (ddls : List ℕ) (i : ℕ) : Type 0 where
   pub some : 1 ≤ i
-  pub most : i ≤ length ddls
-  pub is : rises_by 1 ddls ≡ rises_from 1 (get_or ddls (i - 1) 0) (drop i ddls)
-
--- a walk over a sweep ended at place i: at the end of the sweep where all readings step up, else before it; the levels before i need no other test
-pub record Climbed (ddls luminances : List ℕ) (i : ℕ) : Type 0 where
-  pub levels : LevelsRise ddls i
-  pub all : i ≡ length ddls → (rises_by 1 ddls && is_never_falling luminances) ≡ true
-  pub not_all : i < length ddls → (rises_by 1 ddls && is_never_falling luminances) ≡ false
+  pub is : (k : ℕ) → 1 ≤ k → k < i → get_or ddls (k - 1) 0 < get_or ddls k 0
 
 -- the five lists that a record shows, as they stand before test 5
 abbrev pub lists_of : JobRecord → Lists

@@ -1,13 +1,13 @@
 // The job record: any bytes give its sections and, after tests 5 to 7, its job, or the first refusal from 2 to 7.
 #![tactic(auto)]
 
-ghost use Rattle.std.specs.Prelude.{◌≡◌, ◌&&◌, ◌-◌, ◌<◌, ◌≤◌, ◌++◌, length, drop, get_or, sum, T, eqb, Ok, Err, MatchResult};
+ghost use Rattle.std.specs.Prelude.{◌≡◌, ◌&&◌, ◌-◌, ◌<◌, ◌≤◌, ◌++◌, length, drop, get_or, sum, T, eqb, is_none, IfSome, Ok, Err, MatchResult};
 ghost use Rattle.laws.specs.Rises.{rises_by};
 ghost use Rattle.record.specs.declared.Refusal.TheVariants.{OutOfRange};
 ghost use Rattle.record.specs.Refusals.{refusal_number};
 ghost use Rattle.record.specs.Sections.{permitted, width, count_of};
-ghost use Rattle.record.specs.Tests.{within, meter_of, class_of, meter_number, class_number, settings_in_range, settings_of, lamps_in_range, max_ddl, unless, judged};
-ghost use Rattle.record.specs.Reader.{values, ddls_of, luminances_of, Taken, steps_up, LevelsRise, Climbed, ReadFrom};
+ghost use Rattle.record.specs.Tests.{within, meter_of, class_of, meter_number, class_number, settings_in_range, settings_of, lamps_in_range, is_never_falling, max_ddl, unless, judged};
+ghost use Rattle.record.specs.Reader.{values, ddls_of, luminances_of, Taken, steps_up, LevelsRise, ReadFrom};
 
 mod items;
 
@@ -233,17 +233,12 @@ impl Items<'_, Reading> {
         (below.ddl < reading.ddl) & (below.luminance <= reading.luminance)
     }
 
-    // Tests 6 and 7, but for the ends, in one walk over the sweep: the number of readings where all step up, else the place of the first that does not.
-    fn climb(&self) -> usize
-        requires { 1 ≤ self.now.count }
-        ensures { Climbed (ddls_of self.now) (luminances_of self.now) result }
+    // The first reading that does not step up.
+    fn first_fault(&self) -> Option<usize>
+        ensures none { is_none result ≡ (rises_by 1 (ddls_of self.now) && is_never_falling (luminances_of self.now)) }
+        ensures before { IfSome result (LevelsRise (ddls_of self.now)) }
     {
-        for i in 1..self.len() {
-            if !self.steps_up(i) {
-                return i;
-            }
-        }
-        self.len()
+        (1..self.len()).find(|&i| !self.steps_up(i))
     }
 
     // All levels and all luminances, to the front of two slices. By place: nothing is known of what a zip of two iter_mut wrote.
@@ -259,20 +254,12 @@ impl Items<'_, Reading> {
         }
     }
 
-    // Whether each level is above the one before it, where those before place `from` are known to be. By place: the walk begins there.
+    // Whether all levels rise, where those before place `from` do.
     fn rise_from(&self, from: usize) -> bool
         requires { LevelsRise (ddls_of self.now) from }
         ensures { result ≡ rises_by 1 (ddls_of self.now) }
     {
-        let mut last = self.get(from - 1).ddl;
-        for i in from..self.len() {
-            let ddl = self.get(i).ddl;
-            if ddl <= last {
-                return false;
-            }
-            last = ddl;
-        }
-        true
+        (from..self.len()).all(|i| self.get(i - 1).ddl < self.get(i).ddl)
     }
 }
 
@@ -297,10 +284,9 @@ fn judge(
     if !sweep.ends_span(top) {
         return Err(Refusal::DdlsDoNotSpan);
     }
-    let climbed = sweep.climb();
-    if climbed < sweep.len() {
+    if let Some(fault) = sweep.first_fault() {
         // Levels that do not rise come first, even after a luminance that falls.
-        if sweep.rise_from(climbed) {
+        if sweep.rise_from(fault) {
             return Err(Refusal::LuminanceFalls);
         }
         return Err(Refusal::DdlsDoNotSpan);

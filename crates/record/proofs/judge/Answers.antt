@@ -24,9 +24,9 @@ pub returns-then-rise_from : goal.returns-then-rise_from
 unfolding judged settings_of
 returns-then-rise_from c = grind (arith, fields_length {A = ℕ})
 
-pub returns-then-climbed-len : goal.returns-then-climbed-len
+pub returns-in-Some : goal.returns-in-Some
 unfolding judged settings_of
-returns-then-climbed-len c = grind (arith, fields_length {A = ℕ})
+returns-in-Some c = grind (arith, fields_length {A = ℕ})
 
 pub returns : goal.returns
 unfolding judged settings_of
