@@ -205,11 +205,7 @@ pub fn max_ddl(depth: u16) -> Ddl
     requires { (8 ≤ depth) × (depth ≤ 10) }
     ensures { result.0 ≡ max_ddl depth }
 {
-    match depth {
-        8 => Ddl(255),
-        9 => Ddl(511),
-        _ => Ddl(1023),
-    }
+    Ddl((1 << depth) - 1)
 }
 
 impl Items<'_, Reading> {
