@@ -2,9 +2,9 @@
 #![tactic(auto)]
 
 ghost use Rattle.std.specs.Prelude.{◌≡◌};
-ghost use Rattle.record_values.specs.Values.{numbers_of, ValuesOf};
+ghost use Rattle.record_values.specs.Values.{numbers_of, Shows, ValuesOf};
 
-use record::{Job, Refusal};
+use record::{Job, JobRecord, Refusal};
 
 // An answer in the numbers of document 01; 0 stands for no refusal, and for each value that a refused record does not have. C has no Result and no enum.
 #[repr(C)]
@@ -60,45 +60,53 @@ impl From<Result<Job, Refusal>> for Numbers {
     }
 }
 
+impl From<Result<JobRecord<'_>, Refusal>> for RecordValues {
+    ghost from_gives = { λ found values. Shows found values };
+
+    fn from(found: Result<JobRecord<'_>, Refusal>) -> RecordValues {
+        match found {
+            Ok(record) => {
+                let mut settings = [0u16; 5];
+                let mut lamps = [0u16; 8];
+                let mut ddls = [0u16; 1024];
+                let mut luminances = [0u32; 1024];
+                let mut check = [0u32; 18];
+                record.settings.fill(&mut settings);
+                record.lamps.fill(&mut lamps);
+                record.sweep.fill_sweep(&mut ddls, &mut luminances);
+                record.check.fill(&mut check);
+                RecordValues {
+                    answer: record.job.into(),
+                    given: record.settings.len(),
+                    settings,
+                    sources: record.lamps.len(),
+                    lamps,
+                    readings: record.sweep.len(),
+                    ddls,
+                    luminances,
+                    patches: record.check.len(),
+                    check,
+                }
+            }
+            Err(r) => RecordValues {
+                answer: Err(r).into(),
+                given: 0,
+                settings: [0; 5],
+                sources: 0,
+                lamps: [0; 8],
+                readings: 0,
+                ddls: [0; 1024],
+                luminances: [0; 1024],
+                patches: 0,
+                check: [0; 18],
+            },
+        }
+    }
+}
+
 #[unsafe(no_mangle)]
 pub extern "C" fn record_read(bytes: &[u8]) -> RecordValues
     ensures { ValuesOf bytes.now result }
 {
-    match record::read_record(bytes) {
-        Ok(found) => {
-            let mut settings = [0u16; 5];
-            let mut lamps = [0u16; 8];
-            let mut ddls = [0u16; 1024];
-            let mut luminances = [0u32; 1024];
-            let mut check = [0u32; 18];
-            found.settings.fill(&mut settings);
-            found.lamps.fill(&mut lamps);
-            found.sweep.fill_sweep(&mut ddls, &mut luminances);
-            found.check.fill(&mut check);
-            RecordValues {
-                answer: found.job.into(),
-                given: found.settings.len(),
-                settings,
-                sources: found.lamps.len(),
-                lamps,
-                readings: found.sweep.len(),
-                ddls,
-                luminances,
-                patches: found.check.len(),
-                check,
-            }
-        }
-        Err(r) => RecordValues {
-            answer: Err(r).into(),
-            given: 0,
-            settings: [0; 5],
-            sources: 0,
-            lamps: [0; 8],
-            readings: 0,
-            ddls: [0; 1024],
-            luminances: [0; 1024],
-            patches: 0,
-            check: [0; 18],
-        },
-    }
+    record::read_record(bytes).into()
 }
