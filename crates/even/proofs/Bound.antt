@@ -3,7 +3,6 @@
 use Prim.Native.Nat.{ℕ, suc, ◌+◌, ◌-◌, max, ◌≤◌, ◌<◌}
 use mathlib.Core.Path.{◌≡◌, refl}
 use mathlib.Core.Bool.{false}
-use native.Mathlib.Nat.{le_of_lt}
 use native.Mathlib.Numerals.{add-one}
 use native.Mathlib.Omega.{arith}
 use lib.Dec.{T}
@@ -17,61 +16,57 @@ use Rattle.laws.proofs.Numbers.{max_next, max_same}
 use Rattle.laws.proofs.Search.{any_intro, any_none}
 use Rattle.laws.proofs.Fill.{get_or_tab, Filled, filled_none, filled_more, filled_at}
 use Rattle.reach.specs.declared.Run.{Run}
-use Rattle.even.specs.Even.{Given, F, t, step_deviation, deviation_at, worst_step, target_step}
+use Rattle.even.specs.Even.{Given, F, step_deviation, deviation_at, worst_step, target_step}
 use Rattle.even.specs.Table.{allowed_at, no_level, has_no_table, lowest_levels}
 use Rattle.even.specs.Runs.{brightest, run_from, run_to, NotAbove, RunFound}
 use Rattle.even.specs.Filled.{Workable}
 use Rattle.even.specs.Filling.{RunsAsk, first_bound, RunsFound}
-use Rattle.even.proofs.Runs.{reaching_top, not_above, run_some, some_allowed, lowest_from}
-
--- a run that has a level starts at a level of the curve
-pub level : {curve : List ℕ} {tolerance target : ℕ} {run : Run} → RunFound curve tolerance target (Some run) → run.from < length curve
-level {curve} {tolerance} {target} h = omega (arith, reaching_top curve (brightest tolerance target + 1))
+use Rattle.even.proofs.Runs.{reaching_top, run_rises, run_some, some_allowed, lowest_from}
 
 module _ {x : Given} (ok : Workable x) where
-  module _ (p : ℕ) (l : p < length x.targets - 1) where
-    pub rises : t x p < t x (p + 1)
-    rises = rw add-one (ok.usable.targets_rise p (omega arith))
+  -- a run that has a level starts at a level of the curve
+  pub level : (p : ℕ) {run : Run} → RunFound x p (Some run) → run.from < length x.curve
+  level p h = grind (arith, reaching_top x.curve (brightest x p + 1))
+
+  -- and its end fits its place
+  pub to_fits : (p : ℕ) {run : Run} → RunFound x p (Some run) → run.to < 65536
+  to_fits p h = grind (arith, reaching_top x.curve (brightest x p + 1))
 
   -- ---- no allowed level
 
-  pub found_none : (p : ℕ) (starts ends : List ℕ) → p < length x.targets → RunFound x.curve x.tolerance (t x p) None → RunsFound x starts ends None
+  pub found_none : (p : ℕ) (starts ends : List ℕ) → p < length x.targets → RunFound x p None → RunsFound x starts ends None
   unfolding first_bound has_no_table
   found_none p starts ends l h = grind (arith, any_intro (no_level x) (length x.targets) p, run_some x ok.usable p)
 
 -- the runs up to that of p are found: each has a level, and the worst step of the lowest ones is known
 pub record Finding (x : Given) (starts₀ ends₀ starts ends : List ℕ) (p : ℕ) (run : Run) (worst : ℕ) : Type 0 where
   pub value : p < length x.targets
-  pub is : RunFound x.curve x.tolerance (t x p) (Some run)
+  pub is : RunFound x p (Some run)
   pub some : (q : ℕ) → q ≤ p → run_from x q < run_to x q
   pub worst_is : worst ≡ max_of (λ q. deviation_at x q (run_from x q) (run_from x (suc q))) p
   pub starts_are : Filled (run_from x) starts₀ starts (p + 1)
   pub ends_are : Filled (run_to x) ends₀ ends (p + 1)
 
 module _ {x : Given} (ok : Workable x) {starts₀ ends₀ : List ℕ} (asks : RunsAsk x starts₀ ends₀) where
-  -- the end of a run fits its place
-  pub to_fits : (p : ℕ) {run : Run} → RunFound x.curve x.tolerance (t x p) (Some run) → run.to < 65536
-  to_fits p h = omega (arith, reaching_top x.curve (brightest x.tolerance (t x p) + 1))
-
-  pub finding_first : {run : Run} → RunFound x.curve x.tolerance (t x 0) (Some run) → Finding x starts₀ ends₀ (set starts₀ 0 run.from) (set ends₀ 0 run.to) 0 run 0
+  pub finding_first : {run : Run} → RunFound x 0 (Some run) → Finding x starts₀ ends₀ (set starts₀ 0 run.from) (set ends₀ 0 run.to) 0 run 0
   unfolding max_of
   finding_first h = record {
     value = ok.usable.some_target;
     is = h;
     some = grind arith;
     worst_is = refl;
-    starts_are = filled_more _ starts₀ starts₀ 0 _ (filled_none _ starts₀) (omega (arith, asks.starts_fit, ok.usable.some_target)) h.1.from_is;
-    ends_are = filled_more _ ends₀ ends₀ 0 _ (filled_none _ ends₀) (omega (arith, asks.ends_fit, ok.usable.some_target)) h.1.to_is;
+    starts_are = filled_more _ starts₀ starts₀ 0 _ (filled_none _ starts₀) (omega (arith, asks.starts_fit, ok.usable.some_target)) (rw h.1);
+    ends_are = filled_more _ ends₀ ends₀ 0 _ (filled_none _ ends₀) (omega (arith, asks.ends_fit, ok.usable.some_target)) (rw h.1);
   }
 
   module _ {starts ends : List ℕ} {p : ℕ} {run : Run} {worst : ℕ} (f : Finding x starts₀ ends₀ starts ends p run worst) where
     module _ (l : p < length x.targets - 1) where
-      pub run_on : NotAbove x.curve x.tolerance (t x (p + 1)) run.from run.to
-      run_on = not_above x.curve x.tolerance (t x p) (t x (p + 1)) _ _ ok.usable.curve_keeps ok.usable.tolerance_high (le_of_lt (rises ok p l)) f.is.1
+      pub run_on : NotAbove x (p + 1) run
+      run_on = rw (f.is.1, add-one p) (run_rises ok.usable p (omega arith))
 
-      module _ {next : Run} (h : RunFound x.curve x.tolerance (t x (p + 1)) (Some next)) where
+      module _ {next : Run} (h : RunFound x (p + 1) (Some next)) where
         pub climbs : F x run.from ≤ F x next.from
-        climbs = grind (arith, ok.usable.curve_keeps.keeps run.from next.from, run_on, level h)
+        climbs = grind (arith, ok.usable.curve_keeps.keeps run.from next.from, run_on, level ok (p + 1) h)
 
         pub finding_more : Finding x starts₀ ends₀ (set starts (p + 1) next.from) (set ends (p + 1) next.to) (p + 1) next
             (max worst (step_deviation (F x next.from - F x run.from) (target_step x p)))
@@ -80,8 +75,8 @@ module _ {x : Given} (ok : Workable x) {starts₀ ends₀ : List ℕ} (asks : Ru
           is = h;
           some = grind arith;
           worst_is = grind (arith, max_next (λ q. deviation_at x q (run_from x q) (run_from x (suc q))) p);
-          starts_are = filled_more _ starts₀ starts (p + 1) _ f.starts_are (omega arith) h.1.from_is;
-          ends_are = filled_more _ ends₀ ends (p + 1) _ f.ends_are (omega arith) h.1.to_is;
+          starts_are = filled_more _ starts₀ starts (p + 1) _ f.starts_are (omega arith) (rw h.1);
+          ends_are = filled_more _ ends₀ ends (p + 1) _ f.ends_are (omega arith) (rw h.1);
         }
 
     module _ (h : length x.targets - 1 ≤ p) where

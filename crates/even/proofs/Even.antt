@@ -20,7 +20,7 @@ use Rattle.even.specs.Even.{Given, Within, AllowedTable, deviation_at, worst_ste
 use Rattle.even.specs.Paths.{lowest_path}
 use Rattle.even.specs.Table.{allowed_at, no_level, has_no_table, step_within, tables_within, feasible, lowest_levels, least_worst, even_table}
 use Rattle.even.proofs.Paths.{Path, path_good, lowest_path_lem, lowest_first}
-use Rattle.even.proofs.Runs.{allowed_is, is_allowed, lowest_from, from_rises}
+use Rattle.even.proofs.Runs.{allowed_is, is_allowed, lowest_from, run_rises}
 
 module _ (x : Given) where
   -- ---- tables and paths
@@ -72,7 +72,7 @@ module _ (x : Given) where
     unfolding lowest_levels low_level
     low_allowed every = record {
       within = grind (arith, length_tab low_level (length x.targets), at_tab low_level, lowest_under, allowed_is x, lowest_passes);
-      never_falls = keeps_by_steps (lowest_levels x) (grind (arith, length_tab low_level (length x.targets), at_tab low_level, lowest_from x u, from_rises x u));
+      never_falls = keeps_by_steps (lowest_levels x) (grind (arith, length_tab low_level (length x.targets), at_tab low_level, lowest_from x u, run_rises u));
     }
 
     pub every_level : T (not (has_no_table x)) → (p : ℕ) → p < length x.targets → T (any (allowed_at x p) (length x.curve))

@@ -47,10 +47,7 @@ module _ {x : Given} {k : ℕ} {before : List ℕ} (ok : Workable x) (asks : Row
     s : RowsSoFar x k before words (p + 1)
     s = grind arith
 
-    module _ {g least most : ℕ} (wanted : g ≡ target_step x p) (span_is : IsSpan k g least most) where
-      span : IsSpan k (target_step x p) least most
-      span = rw wanted at span_is
-
+    module _ {least most : ℕ} (span : IsSpan k (target_step x p) least most) where
       asks_of : RowAsks x.curve words p (run_to x p) (run_to x (p + 1)) least most
       asks_of = grind (arith, reaching_top x.curve, mul-le-mul_right (target_step x p) asks.small)
 

@@ -9,10 +9,9 @@ use lib.ListN.{length, drop}
 use Rattle.reach.specs.declared.Run.{Run}
 use Rattle.laws.proofs.Cases.{no_is}
 use Rattle.reach.specs.Rows.{RowThere, RunLit}
-use Rattle.even.specs.Even.{Given, t}
-use Rattle.even.specs.Runs.{brightest}
+use Rattle.even.specs.Even.{Given}
 use Rattle.even.specs.Table.{has_no_table, even_table}
-use Rattle.even.specs.Runs.{run_from, run_to, run_of}
+use Rattle.even.specs.Runs.{brightest, run_from, run_to, run_of}
 use Rattle.even.specs.Filled.{Workable}
 use Rattle.even.specs.Filling.{LastLit, SearchAsks, Searched, WriteAsks, lowest_within, MakeAsks, Made}
 use Rattle.even.proofs.Runs.{reaching_top, allowed_run}
@@ -25,7 +24,7 @@ module _ {x : Given} {bound : ℕ} {before words : List ℕ} (ok : Workable x) (
   last = length x.targets - 1
 
   pub last_there : RowThere words last run.to
-  last_there = grind (arith, reaching_top x.curve (brightest x.tolerance (t x (length x.targets - 1)) + 1))
+  last_there = grind (arith, reaching_top x.curve (brightest x (length x.targets - 1) + 1))
 
   module _ {lighted : List ℕ} (lit : RunLit words lighted last run.from run.to) where
     on : RunLit words lighted (length x.targets - 1) (run_from x (length x.targets - 1)) (run_to x (length x.targets - 1))

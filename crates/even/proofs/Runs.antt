@@ -16,7 +16,7 @@ use Rattle.std.specs.Option.{MatchOption, unwrap_or}
 use Rattle.std.specs.Prelude.{Option, Some, None}
 use Rattle.even.specs.Even.{Given, t, AllowedAt, Usable}
 use Rattle.even.specs.Table.{allowed_at}
-use Rattle.even.specs.Runs.{darkest, brightest, reaching, run_from, run_to, IsRun, NotAbove}
+use Rattle.even.specs.Runs.{darkest, brightest, reaching, run_from, run_to, run_of, NotAbove}
 
 -- ---- the first level that is not darker than l
 
@@ -54,24 +54,26 @@ module _ (curve : List ℕ) (l : ℕ) where
     pub still_darker : (d : ℕ) → d < length curve → get_or curve d 0 < l → d < reaching curve l
     still_darker d k a = grind (arith, not_darker d)
 
-pub reaching_rises : (curve : List ℕ) → NeverFalls curve → (l m : ℕ) → l ≤ m → reaching curve l ≤ reaching curve m
+reaching_rises : (curve : List ℕ) → NeverFalls curve → (l m : ℕ) → l ≤ m → reaching curve l ≤ reaching curve m
 reaching_rises curve keeps l m h = grind (arith, is_darker curve l (reaching curve m), not_darker curve m keeps (reaching curve m), reaching_top curve l)
 
 -- ---- the band around a target
 
--- the lower end never falls, because no more than the whole target is allowed as error
-pub darkest_rises : (w s t : ℕ) → w ≤ 1000 → s ≤ t → darkest w s ≤ darkest w t
-darkest_rises w s t h a =
-    let e : w * t ≡ w * s + w * (t - s) = rw (← mul-add, add-sub_of_le a) in
-    let m = mul-le-mul_right (t - s) h in
-    grind arith
+module _ {x : Given} (u : Usable x) (p : ℕ) (l : suc p < length x.targets) where
+  -- the lower end never falls, because no more than the whole target is allowed as error
+  darkest_rises : darkest x p ≤ darkest x (suc p)
+  darkest_rises =
+      let a = le_of_lt (u.targets_rise p l) in
+      let e : x.tolerance * t x (suc p) ≡ x.tolerance * t x p + x.tolerance * (t x (suc p) - t x p) = rw (← mul-add, add-sub_of_le a) in
+      let m = mul-le-mul_right (t x (suc p) - t x p) u.tolerance_high in
+      grind arith
 
-pub brightest_rises : (w s t : ℕ) → s ≤ t → brightest w s ≤ brightest w t
-brightest_rises w s t a = omega (arith, mul-le-mul_left w a)
+  brightest_rises : brightest x p ≤ brightest x (suc p)
+  brightest_rises = omega (arith, u.targets_rise p l, mul-le-mul_left x.tolerance (le_of_lt (u.targets_rise p l)))
 
--- so neither end of a run does
-pub not_above : (curve : List ℕ) (w s t from to : ℕ) → NeverFalls curve → w ≤ 1000 → s ≤ t → IsRun curve w s from to → NotAbove curve w t from to
-not_above curve w s t from to keeps h a run = grind (arith, reaching_rises curve keeps, darkest_rises w s t h a, brightest_rises w s t a)
+  -- so neither end of a run does
+  pub run_rises : NotAbove x (suc p) (run_of x p)
+  run_rises = grind (arith, reaching_rises x.curve u.curve_keeps, darkest_rises, brightest_rises)
 
 module _ (x : Given) where
   pub allowed_is : (p d : ℕ) → T (allowed_at x p d) → AllowedAt x p d
@@ -101,15 +103,11 @@ module _ (x : Given) where
     pub allowed_run : (p d : ℕ) → d < length x.curve → allowed_at x p d ≡ (leb (run_from x p) d && ltb d (run_to x p))
     allowed_run p d k = grind (arith, allowed_is p d, allowed_from p d, allowed_to p d k, is_allowed p d, run_allowed p d k)
 
-    pub from_rises : (p : ℕ) → suc p < length x.targets → run_from x p ≤ run_from x (suc p)
-    from_rises p h =
-        reaching_rises x.curve u.curve_keeps _ _ (darkest_rises x.tolerance _ _ u.tolerance_high (le_of_lt (u.targets_rise p h)))
-
     -- ---- the lowest allowed level
 
     pub some_allowed : (p : ℕ) → run_from x p < run_to x p → T (any (allowed_at x p) (length x.curve))
     some_allowed p h =
-        let k : run_from x p < length x.curve = omega (arith, reaching_top x.curve (brightest x.tolerance (t x p) + 1)) in
+        let k : run_from x p < length x.curve = omega (arith, reaching_top x.curve (brightest x p + 1)) in
         any_intro _ (length x.curve) (run_from x p) k (is_allowed p _ (run_allowed p _ k (omega arith) h))
 
     pub run_some : (p : ℕ) → T (any (allowed_at x p) (length x.curve)) → run_from x p < run_to x p
@@ -120,6 +118,6 @@ module _ (x : Given) where
     pub lowest_from : (p : ℕ) → T (any (allowed_at x p) (length x.curve)) → lowest (allowed_at x p) (length x.curve) ≡ run_from x p
     lowest_from p s =
         let h = run_some p s in
-        let i : run_from x p < length x.curve = omega (arith, reaching_top x.curve (brightest x.tolerance (t x p) + 1)) in
+        let i : run_from x p < length x.curve = omega (arith, reaching_top x.curve (brightest x p + 1)) in
         lowest_is _ (length x.curve) (run_from x p) i (is_allowed p _ (run_allowed p _ i (le_refl _) h))
         (λ j l a. clash l (allowed_from p j (allowed_is p j a)))

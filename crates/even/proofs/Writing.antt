@@ -194,10 +194,7 @@ module _ {x : Given} {k : ℕ} {words before : List ℕ} (ok : Workable x) (asks
 
     -- ---- the next P-value
 
-    module _ (m : p < length x.targets - 1) {run : Run} (run_is : run ≡ run_of x (p + 1)) {g least most : ℕ} (wanted : g ≡ target_step x p) (span_is : IsSpan k g least most) where
-      span : IsSpan k (target_step x p) least most
-      span = rw wanted at span_is
-
+    module _ (m : p < length x.targets - 1) {run : Run} (run_is : run ≡ run_of x (p + 1)) {least most : ℕ} (span : IsSpan k (target_step x p) least most) where
       good_here : T (good_at x k p d)
       good_here =
           rw w.level_is

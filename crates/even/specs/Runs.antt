@@ -4,52 +4,40 @@ use Rattle.laws.specs.Search.{lowest}
 use Rattle.reach.specs.declared.Run.{Run}
 use Rattle.even.specs.Even.{Given, t}
 
--- the error allowed around a target, as a luminance, rounded down
-abbrev pub margin : (tolerance target : ℕ) → ℕ
-margin tolerance target = tolerance * target / 1000
+-- the error allowed at p, as a luminance, rounded down
+abbrev pub margin : Given → (p : ℕ) → ℕ
+margin x p = x.tolerance * t x p / 1000
 
 -- the ends of the band
-abbrev pub darkest : (tolerance target : ℕ) → ℕ
-darkest tolerance target = target - margin tolerance target
+abbrev pub darkest : Given → (p : ℕ) → ℕ
+darkest x p = t x p - margin x p
 
-abbrev pub brightest : (tolerance target : ℕ) → ℕ
-brightest tolerance target = target + margin tolerance target
+abbrev pub brightest : Given → (p : ℕ) → ℕ
+brightest x p = t x p + margin x p
 
 -- the first level that is not darker than l; where all are, their number
 unfoldable pub reaching : (curve : List ℕ) (l : ℕ) → ℕ
 reaching curve l = lowest (λ d. leb l (get_or curve d 0)) (length curve)
 
--- the first level not below the band, and the first above it
-abbrev pub enters : (curve : List ℕ) (tolerance target : ℕ) → ℕ
-enters curve tolerance target = reaching curve (darkest tolerance target)
-
-abbrev pub leaves : (curve : List ℕ) (tolerance target : ℕ) → ℕ
-leaves curve tolerance target = reaching curve (brightest tolerance target + 1)
-
--- the run of p
+-- the run of p: from the first level not below the band to the first above it
 abbrev pub run_from : Given → (p : ℕ) → ℕ
-run_from x p = enters x.curve x.tolerance (t x p)
+run_from x p = reaching x.curve (darkest x p)
 
 abbrev pub run_to : Given → (p : ℕ) → ℕ
-run_to x p = leaves x.curve x.tolerance (t x p)
-
--- from and to are the run of a target
-pub record IsRun (curve : List ℕ) (tolerance target from to : ℕ) : Type 0 where
-  pub from_is : from ≡ enters curve tolerance target
-  pub to_is : to ≡ leaves curve tolerance target
-
--- neither end lies above that of the run
-pub record NotAbove (curve : List ℕ) (tolerance target from to : ℕ) : Type 0 where
-  pub from_low : from ≤ enters curve tolerance target
-  pub to_low : to ≤ leaves curve tolerance target
-
--- the run of a target, or that it has no level
-abbrev pub RunFound : (curve : List ℕ) (tolerance target : ℕ) → Option Run → Type 0
-RunFound curve tolerance target (Some run) = (run.from < run.to) × IsRun curve tolerance target run.from run.to
-RunFound curve tolerance target None = leaves curve tolerance target ≤ enters curve tolerance target
+run_to x p = reaching x.curve (brightest x p + 1)
 
 abbrev pub run_of : Given → (p : ℕ) → Run
 run_of x p = record { from = run_from x p; to = run_to x p }
+
+-- neither end lies above that of the run of p
+pub record NotAbove (x : Given) (p : ℕ) (run : Run) : Type 0 where
+  pub from_low : run.from ≤ run_from x p
+  pub to_low : run.to ≤ run_to x p
+
+-- the run of p, or that it has no level
+abbrev pub RunFound : Given → (p : ℕ) → Option Run → Type 0
+RunFound x p (Some run) = (run.from < run.to) × (run ≡ run_of x p)
+RunFound x p None = run_to x p ≤ run_from x p
 
 -- two lists hold the runs of all P-values: where each starts, and where it has ended
 pub record AreRuns (x : Given) (starts ends : List ℕ) : Type 0 where

@@ -43,20 +43,6 @@ struct Band {
     bright: Luminance,
 }
 
-// The bound of a target, here and below, is no type: a Luminance elsewhere may be larger, and one of its own would be made and unmade at each place.
-fn band_of(tolerance: u16, target: Luminance) -> Band
-    requires { (tolerance ≤ 1000) × (target.0 < 2 ^ 26) }
-    ensures { (result.dark.0 ≡ darkest tolerance target.0) × (result.bright.0 ≡ brightest tolerance target.0 + 1) }
-{
-    let t = target.0;
-    let product = u64::from(tolerance) * u64::from(t);
-    let error = (product / 1000) as u32;
-    Band {
-        dark: Luminance(t - error),
-        bright: Luminance(t + error + 1),
-    }
-}
-
 // The first level that is not darker than l, from one that is not above it.
 fn rise_to(curve: &[u32], l: Luminance, from: usize) -> usize
     requires { from ≤ reaching curve.now l.0 }
@@ -76,19 +62,6 @@ fn step_deviation(f: Luminance, g: Luminance) -> u64
     (1000 * u64::from(f.0).abs_diff(wanted)).div_ceil(wanted)
 }
 
-// The steps of luminance whose step deviation is at most k.
-fn span_of(k: u64, g: Luminance) -> Span
-    requires { (k ≤ 1000 * 2 ^ 26) × (g.0 < 2 ^ 26) }
-    ensures { IsSpan k g.0 result.least result.most }
-{
-    let step = u64::from(g.0);
-    let apart = k * step / 1000;
-    Span {
-        least: step.saturating_sub(apart),
-        most: step + apart,
-    }
-}
-
 impl Problem<'_> {
     ghost use Rattle.even.specs.Problems.{given_of};
     ghost use Rattle.even.specs.Even.{target_step};
@@ -103,13 +76,40 @@ impl Problem<'_> {
         Luminance(self.targets[p + 1] - self.targets[p])
     }
 
-    // The run of a target, from that of a target that is not above it; none where no level is allowed.
-    fn run_up(&self, target: Luminance, run: Run) -> Option<Run>
-        requires small { target.0 < 2 ^ 26 }
-        requires not_above { NotAbove self.now.curve.now self.now.tolerance target.0 run.from run.to }
-        ensures { RunFound self.now.curve.now self.now.tolerance target.0 result }
+    fn band(&self, p: usize) -> Band
+        requires { p < length self.now.targets.now }
+        ensures dark { result.dark.0 ≡ darkest (given_of self.now) p }
+        ensures bright { result.bright.0 ≡ brightest (given_of self.now) p + 1 }
     {
-        let band = band_of(self.tolerance, target);
+        let t = self.targets[p];
+        let product = u64::from(self.tolerance) * u64::from(t);
+        let error = (product / 1000) as u32;
+        Band {
+            dark: Luminance(t - error),
+            bright: Luminance(t + error + 1),
+        }
+    }
+
+    // The steps of luminance from p to the next P-value whose step deviation is at most k.
+    fn span(&self, k: u64, p: usize) -> Span
+        requires { (k ≤ 1000 * 2 ^ 26) × (p + 1 < length self.now.targets.now) }
+        ensures { IsSpan k (target_step (given_of self.now) p) result.least result.most }
+    {
+        let step = u64::from(self.wanted_step(p).0);
+        let apart = k * step / 1000;
+        Span {
+            least: step.saturating_sub(apart),
+            most: step + apart,
+        }
+    }
+
+    // The run of p, from that of a P-value that is not above it; none where no level is allowed.
+    fn run_up(&self, p: usize, run: Run) -> Option<Run>
+        requires value { p < length self.now.targets.now }
+        requires not_above { NotAbove (given_of self.now) p run }
+        ensures { RunFound (given_of self.now) p result }
+    {
+        let band = self.band(p);
         let from = rise_to(self.curve, band.dark, run.from);
         let to = rise_to(self.curve, band.bright, run.to);
         if to <= from {
@@ -124,14 +124,13 @@ impl Problem<'_> {
         requires { RunsAsk (given_of self.now) starts.old ends.old }
         ensures { RunsFound (given_of self.now) starts.new ends.new result }
     {
-        let targets = self.targets;
-        let mut run = self.run_up(Luminance(targets[0]), Run { from: 0, to: 0 })?;
+        let mut run = self.run_up(0, Run { from: 0, to: 0 })?;
         starts[0] = run.from as u16;
         ends[0] = run.to as u16;
         let mut worst: u64 = 0;
         // By place: each step is from one target to the next.
-        for p in 0..targets.len() - 1 {
-            let next = self.run_up(Luminance(targets[p + 1]), run)?;
+        for p in 0..self.targets.len() - 1 {
+            let next = self.run_up(p + 1, run)?;
             let f = self.curve[next.from] - self.curve[run.from];
             worst = worst.max(step_deviation(Luminance(f), self.wanted_step(p)));
             starts[p + 1] = next.from as u16;
@@ -189,7 +188,7 @@ impl Found<'_> {
         let curve = self.problem.curve;
         // By place: a row is filled from the next one.
         for p in (0..self.problem.targets.len() - 1).rev() {
-            let span = span_of(k, self.problem.wanted_step(p));
+            let span = self.problem.span(k, p);
             if !reach::fill_row(curve, work, p, self.run_at(p), self.run_at(p + 1), span) {
                 return false;
             }
@@ -233,7 +232,7 @@ impl Found<'_> {
         table[0] = d as u16;
         // By place: each level is found from the one before it.
         for p in 0..self.problem.targets.len() - 1 {
-            let least = u64::from(curve[d]) + span_of(k, self.problem.wanted_step(p)).least;
+            let least = u64::from(curve[d]) + self.problem.span(k, p).least;
             let run = self.run_at(p + 1);
             let left = Run {
                 from: d.max(run.from),

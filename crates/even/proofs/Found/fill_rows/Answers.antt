@@ -7,15 +7,15 @@ loop-p-init c = rows_first c.args.self.now.problem.workable c.requires c.args.se
 
 pub fill_row-requires : goal.fill_row-requires
 fill_row-requires c =
-    row_asks c.args.self.now.problem.workable c.requires c.loop-p-test.true c.loop-p.invariant c.wanted_step.ensures c.span_of-span.ensures c.run_at.ensures c.run_at-in-loop-p.ensures
+    row_asks c.args.self.now.problem.workable c.requires c.loop-p-test.true c.loop-p.invariant c.span-span.ensures c.run_at.ensures c.run_at-in-loop-p.ensures
 
 pub returns-then-not-fill_row : goal.returns-then-not-fill_row
 returns-then-not-fill_row c =
-    rows_none c.args.self.now.problem.workable c.requires c.loop-p-test.true c.loop-p.invariant c.wanted_step.ensures c.span_of-span.ensures c.run_at.ensures c.run_at-in-loop-p.ensures c.fill_row.ensures c.if-not-fill_row.true
+    rows_none c.args.self.now.problem.workable c.requires c.loop-p-test.true c.loop-p.invariant c.span-span.ensures c.run_at.ensures c.run_at-in-loop-p.ensures c.fill_row.ensures c.if-not-fill_row.true
 
 pub loop-p-preserved : goal.loop-p-preserved
 loop-p-preserved c =
-    rows_next c.args.self.now.problem.workable c.requires c.loop-p-test.true c.loop-p.invariant c.wanted_step.ensures c.span_of-span.ensures c.run_at.ensures c.run_at-in-loop-p.ensures c.fill_row.ensures c.if-not-fill_row.false
+    rows_next c.args.self.now.problem.workable c.requires c.loop-p-test.true c.loop-p.invariant c.span-span.ensures c.run_at.ensures c.run_at-in-loop-p.ensures c.fill_row.ensures c.if-not-fill_row.false
 
 pub returns : goal.returns
 returns c = rows_all c.args.self.now.problem.workable c.requires c.loop-p.invariant c.loop-p-test.false

@@ -26,10 +26,10 @@ pub first_lit-requires-in-loop-p : goal.first_lit-requires-in-loop-p
 first_lit-requires-in-loop-p c = row_there c.args.self.now.problem.workable c.requires (c.loop-p.p + 1) (omega arith) c.run_at-run.ensures
 
 pub unwrap-d-requires-in-loop-p : goal.unwrap-d-requires-in-loop-p
-unwrap-d-requires-in-loop-p c = after_some c.args.self.now.problem.workable c.requires c.loop-p.invariant c.loop-p-test.true c.run_at-run.ensures c.wanted_step.ensures c.span_of.ensures _ (omega (arith, c.from.ensures)) _ (rw c.max.ensures at c.first_lit-in-loop-p.ensures)
+unwrap-d-requires-in-loop-p c = after_some c.args.self.now.problem.workable c.requires c.loop-p.invariant c.loop-p-test.true c.run_at-run.ensures c.span.ensures _ (omega (arith, c.from.ensures)) _ (rw c.max.ensures at c.first_lit-in-loop-p.ensures)
 
 pub overflow_cast-table-in-loop-p : goal.overflow_cast-table-in-loop-p
-overflow_cast-table-in-loop-p c = omega (arith, after_fits c.args.self.now.problem.workable c.requires c.loop-p.invariant c.loop-p-test.true c.run_at-run.ensures c.wanted_step.ensures c.span_of.ensures _ (omega (arith, c.from.ensures)) _ (rw c.max.ensures at c.first_lit-in-loop-p.ensures) c.unwrap-d-in-loop-p.ensures)
+overflow_cast-table-in-loop-p c = omega (arith, after_fits c.args.self.now.problem.workable c.requires c.loop-p.invariant c.loop-p-test.true c.run_at-run.ensures c.span.ensures _ (omega (arith, c.from.ensures)) _ (rw c.max.ensures at c.first_lit-in-loop-p.ensures) c.unwrap-d-in-loop-p.ensures)
 
 pub loop-p-preserved : goal.loop-p-preserved
-loop-p-preserved c = writing_more c.args.self.now.problem.workable c.requires c.loop-p.invariant c.loop-p-test.true c.run_at-run.ensures c.wanted_step.ensures c.span_of.ensures _ (rw (c.max.ensures, c.from.ensures) at c.first_lit-in-loop-p.ensures) c.unwrap-d-in-loop-p.ensures
+loop-p-preserved c = writing_more c.args.self.now.problem.workable c.requires c.loop-p.invariant c.loop-p-test.true c.run_at-run.ensures c.span.ensures _ (rw (c.max.ensures, c.from.ensures) at c.first_lit-in-loop-p.ensures) c.unwrap-d-in-loop-p.ensures

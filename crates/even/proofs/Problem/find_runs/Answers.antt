@@ -12,16 +12,16 @@ pub loop-p-init : goal.loop-p-init
 loop-p-init c = finding_first c.args.self.now.workable c.requires c.in_ok-run.ensures
 
 pub overflow_cast-starts : goal.overflow_cast-starts
-overflow_cast-starts c = omega (arith, level c.in_ok-run.ensures, c.args.self.now.workable.levels)
+overflow_cast-starts c = omega (arith, level c.args.self.now.workable 0 c.in_ok-run.ensures, c.args.self.now.workable.levels)
 
 pub overflow_cast-ends : goal.overflow_cast-ends
-overflow_cast-ends c = omega (arith, to_fits c.args.self.now.workable c.requires 0 c.in_ok-run.ensures)
+overflow_cast-ends c = omega (arith, to_fits c.args.self.now.workable 0 c.in_ok-run.ensures)
 
 pub overflow_cast-starts-in-loop-p : goal.overflow_cast-starts-in-loop-p
-overflow_cast-starts-in-loop-p c = omega (arith, level c.in_ok-next.ensures, c.args.self.now.workable.levels)
+overflow_cast-starts-in-loop-p c = omega (arith, level c.args.self.now.workable (c.loop-p.p + 1) c.in_ok-next.ensures, c.args.self.now.workable.levels)
 
 pub overflow_cast-ends-in-loop-p : goal.overflow_cast-ends-in-loop-p
-overflow_cast-ends-in-loop-p c = omega (arith, to_fits c.args.self.now.workable c.requires (c.loop-p.p + 1) c.in_ok-next.ensures)
+overflow_cast-ends-in-loop-p c = omega (arith, to_fits c.args.self.now.workable (c.loop-p.p + 1) c.in_ok-next.ensures)
 
 pub run_up-requires-in-loop-p-clause-not_above : goal.run_up-requires-in-loop-p-clause-not_above
 run_up-requires-in-loop-p-clause-not_above c = run_on c.args.self.now.workable c.requires c.loop-p.invariant c.loop-p-test.true
@@ -32,16 +32,16 @@ returns-in_err-next c =
     (found_none c.args.self.now.workable (c.loop-p.p + 1) _ _ (omega arith) c.in_err-next.ensures)
 
 pub offset_bounds-self-next : goal.offset_bounds-self-next
-offset_bounds-self-next c = omega (arith, level c.in_ok-next.ensures, c.args.self.now.workable.levels)
+offset_bounds-self-next c = omega (arith, level c.args.self.now.workable (c.loop-p.p + 1) c.in_ok-next.ensures, c.args.self.now.workable.levels)
 
 pub bounds-self-next : goal.bounds-self-next
-bounds-self-next c = level c.in_ok-next.ensures
+bounds-self-next c = level c.args.self.now.workable (c.loop-p.p + 1) c.in_ok-next.ensures
 
 pub offset_bounds-self-run : goal.offset_bounds-self-run
-offset_bounds-self-run c = omega (arith, level c.loop-p.invariant.is, c.args.self.now.workable.levels)
+offset_bounds-self-run c = omega (arith, level c.args.self.now.workable c.loop-p.p c.loop-p.invariant.is, c.args.self.now.workable.levels)
 
 pub bounds-self-run : goal.bounds-self-run
-bounds-self-run c = level c.loop-p.invariant.is
+bounds-self-run c = level c.args.self.now.workable c.loop-p.p c.loop-p.invariant.is
 
 pub overflow_sub-f : goal.overflow_sub-f
 overflow_sub-f c = climbs c.args.self.now.workable c.requires c.loop-p.invariant c.loop-p-test.true c.in_ok-next.ensures
