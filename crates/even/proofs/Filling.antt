@@ -1,6 +1,6 @@
 -- The rows filled one by one, from the last down.
 -- Assumes nothing.
-use Prim.Native.Nat.{ℕ, suc, ◌+◌, ◌-◌, ◌≤◌, ◌<◌}
+use Prim.Native.Nat.{ℕ, suc, ◌+◌, ◌-◌, ◌*◌, ◌^◌, ◌≤◌, ◌<◌}
 use mathlib.Core.Path.{◌≡◌}
 use mathlib.Core.Bool.{Bool, true, false}
 use mathlib.Core.List.{List}
@@ -18,7 +18,7 @@ use Rattle.even.specs.Table.{allowed_at, good_at, feasible, has_no_table, tables
 use Rattle.even.specs.Runs.{run_from, run_to, run_of}
 use Rattle.even.specs.Steps.{least_step, most_step, IsSpan}
 use Rattle.even.specs.Filled.{Workable, KeptFrom}
-use Rattle.even.specs.Filling.{RowsGood, RowsAsk, RowsFilled}
+use Rattle.even.specs.Filling.{RowsGood, LastLit, RowsFilled}
 use Rattle.even.proofs.Paths.{good_last}
 use Rattle.even.proofs.Runs.{reaching_top}
 use Rattle.even.proofs.Even.{every_level}
@@ -31,16 +31,16 @@ pub record RowsSoFar (x : Given) (k : ℕ) (before words : List ℕ) (p : ℕ) :
   pub kept : KeptFrom (length x.targets - 1) before words
   pub some : any (good_at x k p) (length x.curve) ≡ true
 
-module _ {x : Given} {k : ℕ} {before : List ℕ} (ok : Workable x) (asks : RowsAsk x k before) where
+module _ {x : Given} {k : ℕ} {before : List ℕ} (ok : Workable x) (last : LastLit x before) where
   pub rows_first : has_no_table x ≡ false → RowsSoFar x k before before (length x.targets - 1)
-  rows_first some = grind (arith, last_good ok k asks.last, kept_all, good_last (tables_within x k), every_level x ok.usable (no_is some) (length x.targets - 1), any_same (good_at x k (length x.targets - 1)) (allowed_at x (length x.targets - 1)) (length x.curve))
+  rows_first some = grind (arith, last_good ok k last, kept_all, good_last (tables_within x k), every_level x ok.usable (no_is some) (length x.targets - 1), any_same (good_at x k (length x.targets - 1)) (allowed_at x (length x.targets - 1)) (length x.curve))
 
   pub rows_all : {words : List ℕ} {p : ℕ} → RowsSoFar x k before words p → p ≤ 0 → RowsFilled x k before words true
   unfolding feasible
   rows_all {words} s h = grind arith
 
   -- the row of p, from the next one
-  module _ {words : List ℕ} {next : ℕ} (left : 0 < next) (next_found : RowsSoFar x k before words next) where
+  module _ {words : List ℕ} {next : ℕ} (small : k ≤ 1000 * 2 ^ 26) (left : 0 < next) (next_found : RowsSoFar x k before words next) where
     abbrev p : ℕ
     p = next - 1
 
@@ -49,7 +49,7 @@ module _ {x : Given} {k : ℕ} {before : List ℕ} (ok : Workable x) (asks : Row
 
     module _ {least most : ℕ} (span : IsSpan k (target_step x p) least most) where
       asks_of : RowAsks x.curve words p (run_to x p) (run_to x (p + 1)) least most
-      asks_of = grind (arith, reaching_top x.curve, mul-le-mul_right (target_step x p) asks.small)
+      asks_of = grind (arith, reaching_top x.curve, mul-le-mul_right (target_step x p) small)
 
       -- by the runs that were read
       pub row_asks : {run above : Run} → run ≡ run_of x p → above ≡ run_of x (p + 1) → RowAsks x.curve words p run.to above.to least most
@@ -64,7 +64,7 @@ module _ {x : Given} {k : ℕ} {before : List ℕ} (ok : Workable x) (asks : Row
         rows_before : RowsGood x words k (suc p)
         rows_before = rw (← add-one p) s.good
 
-        rows_kept : KeptFrom (length x.targets - 1) before after
+        pub rows_kept : KeptFrom (length x.targets - 1) before after
         rows_kept = grind (arith, kept_then, kept_row)
 
         pub rows_none : some ≡ false → RowsFilled x k before after false

@@ -2,14 +2,15 @@
 -- Assumes nothing.
 use Prim.Native.Nat.{ℕ, suc, ◌+◌, ◌-◌, max, ◌≤◌, ◌<◌, zero-le}
 use mathlib.Core.Path.{◌≡◌, sym, subst}
-use mathlib.Core.List.{List}
+use mathlib.Core.Bool.{false}
+use mathlib.Core.List.{List, ◌++◌}
 use native.Mathlib.Nat.{le_refl, le_trans}
 use native.Mathlib.Numerals.{add-one}
 use native.Mathlib.Omega.{arith}
 use lib.Dec.{T}
-use lib.ListN.{length, get_or, set}
+use lib.ListN.{length, get_or, set, drop}
 use Rattle.laws.specs.Search.{lowest}
-use Rattle.laws.proofs.Cases.{yes_is}
+use Rattle.laws.proofs.Cases.{no_is}
 use Rattle.laws.proofs.Search.{lowest_passes, lowest_under, lowest_is}
 use Rattle.laws.proofs.Fill.{Filled, filled_none, filled_more}
 use Rattle.std.specs.Prelude.{Option, Some}
@@ -20,13 +21,14 @@ use Rattle.reach.proofs.Steps.{Fits, fits_is, is_fit}
 use Rattle.reach.proofs.Rows.{IsLit, lit_is, is_lit}
 use Rattle.even.specs.Even.{Given, F, target_step}
 use Rattle.even.specs.Paths.{next, lowest_path}
-use Rattle.even.specs.Table.{step_within, tables_within, good_at, feasible}
-use Rattle.even.specs.Runs.{run_from, run_to, run_of}
+use Rattle.even.specs.Table.{has_no_table, step_within, tables_within, good_at, feasible, even_table}
+use Rattle.even.specs.Runs.{brightest, run_from, run_to, run_of}
 use Rattle.even.specs.Filled.{Workable}
 use Rattle.even.specs.Steps.{least_step, most_step, IsSpan}
-use Rattle.even.specs.Filling.{WriteAsks}
+use Rattle.even.specs.Filling.{LastLit, WriteAsks}
 use Rattle.even.proofs.Paths.{Path, path_from, path_good, lowest_path_lem, next_good, next_is}
 use Rattle.even.proofs.Runs.{reaching_top}
+use Rattle.even.proofs.Even.{least_feasible}
 use Rattle.even.proofs.Steps.{step_fits_lem}
 
 -- ---- the first lit level that is bright enough
@@ -59,7 +61,11 @@ module _ {curve words : List ℕ} {p from to start least r : ℕ} (first : First
     first_is_lit : from ≤ start → IsLit words p from to r
     first_is_lit l = grind (arith, below_end)
 
-module _ {x : Given} {k : ℕ} {words before : List ℕ} (ok : Workable x) (asks : WriteAsks x k words before) where
+module _ {x : Given} {k : ℕ} {words before : List ℕ} (ok : Workable x) (some : has_no_table x ≡ false) (asks : WriteAsks x k words before) where
+  -- some allowed table has this worst step
+  some_within : T (feasible x k)
+  some_within = rw asks.least (least_feasible x ok.usable (no_is some))
+
   -- the lit levels of p are the good ones
   good_lit : (p d : ℕ) → p < length x.targets → d < length x.curve → T (good_at x k p d) → IsLit words p (run_from x p) (run_to x p) d
   good_lit p d l h g = lit_is words p _ _ d (grind (arith, asks.rows.lit_good p d))
@@ -72,8 +78,7 @@ module _ {x : Given} {k : ℕ} {words before : List ℕ} (ok : Workable x) (asks
   lowest_good : IsLit words 0 (run_from x 0) (run_to x 0) (lowest (good_at x k 0) (length x.curve))
   unfolding feasible
   lowest_good =
-      let some = yes_is asks.some in
-      good_lit 0 _ ok.usable.some_target (lowest_under (good_at x k 0) _ some) (lowest_passes (good_at x k 0) _ some)
+      good_lit 0 _ ok.usable.some_target (lowest_under (good_at x k 0) _ some_within) (lowest_passes (good_at x k 0) _ some_within)
 
   pub level_some : (found : Option ℕ) → FindsFirst x.curve words 0 (run_to x 0) (run_from x 0) 0 found → IsSome found
   level_some found h = some_found x.curve words 0 (run_from x 0) (run_to x 0) (run_from x 0) 0 found h _ lowest_good lowest_good.low zero-le
@@ -81,9 +86,8 @@ module _ {x : Given} {k : ℕ} {words before : List ℕ} (ok : Workable x) (asks
   pub level_first : {r : ℕ} → First x.curve words 0 (run_to x 0) (run_from x 0) 0 r → r ≡ lowest_path (tables_within x k) 0
   unfolding lowest_path feasible
   level_first {r} first =
-      let some = yes_is asks.some in
       let e = lowest (good_at x k 0) (length x.curve) in
-      let under = lowest_under (good_at x k 0) _ some in
+      let under = lowest_under (good_at x k 0) _ some_within in
       let on = lowest_good in
       let small = not_after first e on on.low zero-le in
       let here = first_is_lit first e on on.low zero-le (le_refl _) in
@@ -153,14 +157,18 @@ pub record Writing (x : Given) (k : ℕ) (before after : List ℕ) (p d : ℕ) :
   pub level_is : d ≡ lowest_path (tables_within x k) p
   pub entries : Filled (lowest_path (tables_within x k)) before after (p + 1)
 
-module _ {x : Given} {k : ℕ} {words before : List ℕ} (ok : Workable x) (asks : WriteAsks x k words before) where
+run_ends : (x : Given) (p : ℕ) {run : Run} → run ≡ run_of x p → run.to ≤ length x.curve
+run_ends x p is = rw is (reaching_top x.curve (brightest x p + 1))
+
+-- what the search for a level of a row asks
+pub row_there : {x : Given} {words : List ℕ} → Workable x → LastLit x words → (p : ℕ) → p < length x.targets → {run : Run} → run ≡ run_of x p
+    → RowThere words p run.to × (run.to ≤ length x.curve)
+row_there {x} ok last p l is = grind (arith, run_ends x p is)
+
+module _ {x : Given} {k : ℕ} {words before : List ℕ} (ok : Workable x) (some : has_no_table x ≡ false) (asks : WriteAsks x k words before) where
   path : Path (tables_within x k) 0 (lowest_path (tables_within x k))
   unfolding feasible
-  path = lowest_path_lem (tables_within x k) (yes_is asks.some)
-
-  -- what the search for a level of a row asks
-  pub row_there : (p : ℕ) → p < length x.targets → {run : Run} → run ≡ run_of x p → RowThere words p run.to × (run.to ≤ length x.curve)
-  row_there p l is = rw is (grind (arith, reaching_top x.curve))
+  path = lowest_path_lem (tables_within x k) (some_within ok some asks)
 
   path_small : (p : ℕ) → p < length x.targets → lowest_path (tables_within x k) p < length x.curve
   path_small p l = path.level p (omega arith) (omega arith)
@@ -172,11 +180,11 @@ module _ {x : Given} {k : ℕ} {words before : List ℕ} (ok : Workable x) (asks
     start_found = rw run_is at h
 
     pub start_some : IsSome found
-    start_some = level_some ok asks found start_found
+    start_some = level_some ok some asks found start_found
 
     module _ {d : ℕ} (is : found ≡ Some d) where
       start_is : d ≡ lowest_path (tables_within x k) 0
-      start_is = level_first ok asks (first_of x.curve words 0 (run_from x 0) (run_to x 0) (run_from x 0) 0 found start_found is)
+      start_is = level_first ok some asks (first_of x.curve words 0 (run_from x 0) (run_to x 0) (run_from x 0) 0 found start_found is)
 
       pub start_fits : d < 65536
       start_fits = omega (arith, start_is, path_small 0 ok.usable.some_target, ok.levels)
@@ -204,10 +212,10 @@ module _ {x : Given} {k : ℕ} {words before : List ℕ} (ok : Workable x) (asks
       module _ (low : ℕ) (small : low ≤ F x d + least) (found : Option ℕ)
           (h : FindsFirst x.curve words (p + 1) run.to (max d run.from) low found) where
         pub after_some : IsSome found
-        after_some = next_some ok asks p d (omega arith) good_here low (rw (← span.least_is) small) found (rw (add-one p) at (rw run_is at h))
+        after_some = next_some ok some asks p d (omega arith) good_here low (rw (← span.least_is) small) found (rw (add-one p) at (rw run_is at h))
 
         pub after_fits : {e : ℕ} → found ≡ Some e → e < 65536
-        after_fits {e} is = omega (arith, first_below x.curve words (p + 1) (run_from x (p + 1)) _ _ low found h is, (row_there (p + 1) (omega arith) run_is).1, ok.levels)
+        after_fits {e} is = omega (arith, first_below x.curve words (p + 1) (run_from x (p + 1)) _ _ low found h is, run_ends x (p + 1) run_is, ok.levels)
 
       module _ (found : Option ℕ)
           (h : FindsFirst x.curve words (p + 1) run.to (max d run.from) (F x d + least) found) where
@@ -217,7 +225,7 @@ module _ {x : Given} {k : ℕ} {words before : List ℕ} (ok : Workable x) (asks
         module _ {e : ℕ} (is : found ≡ Some e) where
           after_is : e ≡ lowest_path (tables_within x k) (p + 1)
           unfolding lowest_path
-          after_is = grind (arith, level_next ok asks p d (omega arith) good_here (first_of x.curve words (suc p) (run_from x (suc p)) (run_to x (suc p)) _ _ found as_defined is))
+          after_is = grind (arith, level_next ok some asks p d (omega arith) good_here (first_of x.curve words (suc p) (run_from x (suc p)) (run_to x (suc p)) _ _ found as_defined is))
 
           pub writing_more : Writing x k before (set after (p + 1) e) (p + 1) e
           writing_more = record {
@@ -225,3 +233,7 @@ module _ {x : Given} {k : ℕ} {words before : List ℕ} (ok : Workable x) (asks
             level_is = after_is;
             entries = filled_more _ before after (p + 1) e w.entries (omega arith) after_is;
           }
+
+    pub writing_all : length x.targets - 1 ≤ p → after ≡ even_table x ++ drop (length x.targets) before
+    unfolding even_table
+    writing_all m = grind (arith, w.entries.is, asks.least)

@@ -1,10 +1,8 @@
 -- What the parts of the even table's code ask and leave.
-use Rattle.std.specs.Prelude.{ℕ, ◌-◌, ◌*◌, ◌^◌, ◌≤◌, ◌<◌, ◌≡◌, Bool, true, false, cond, List, ◌++◌, Option, Some, None, length, drop}
-use Rattle.laws.specs.Fill.{tab}
+use Rattle.std.specs.Prelude.{ℕ, ◌-◌, ◌*◌, ◌≤◌, ◌<◌, ◌≡◌, Bool, true, false, cond, List, ◌++◌, Option, Some, None, length, drop}
 use Rattle.reach.specs.Rows.{lit}
 use Rattle.even.specs.Even.{Given, worst_step}
-use Rattle.even.specs.Paths.{lowest_path}
-use Rattle.even.specs.Table.{allowed_at, has_no_table, good_at, feasible, tables_within, lowest_levels, least_worst, even_table}
+use Rattle.even.specs.Table.{allowed_at, has_no_table, good_at, feasible, lowest_levels, least_worst, even_table}
 use Rattle.even.specs.Runs.{run_from, run_to, AreRuns}
 use Rattle.even.specs.Filled.{KeptFrom}
 
@@ -35,21 +33,11 @@ pub record LastLit (x : Given) (words : List ℕ) : Type 0 where
   pub there : 32 * length x.targets ≤ length words
   pub lit_last : (d : ℕ) → d < length x.curve → lit_at x words (length x.targets - 1) d ≡ allowed_at x (length x.targets - 1) d
 
--- what filling the rows for k asks
-pub record RowsAsk (x : Given) (k : ℕ) (words : List ℕ) : Type 0 where
-  pub last : LastLit x words
-  pub small : k ≤ 1000 * 2 ^ 26
-
 -- the rows before the last are filled for k, as far as some level was good; and whether one was in all of them
 pub record RowsFilled (x : Given) (k : ℕ) (before after : List ℕ) (some : Bool) : Type 0 where
   pub kept : KeptFrom (length x.targets - 1) before after
   pub decides : some ≡ feasible x k
   pub rows : some ≡ true → RowsGood x after k 0
-
--- what the search for the least worst step asks: the bound is that of the lowest levels
-pub record SearchAsks (x : Given) (bound : ℕ) (words : List ℕ) : Type 0 where
-  pub last : LastLit x words
-  pub bound_is : bound ≡ worst_step x (lowest_levels x)
 
 -- the least worst step, with the rows filled for it
 pub record Searched (x : Given) (before after : List ℕ) (k : ℕ) : Type 0 where
@@ -57,17 +45,11 @@ pub record Searched (x : Given) (before after : List ℕ) (k : ℕ) : Type 0 whe
   pub least : k ≡ least_worst x
   pub rows : RowsGood x after k 0
 
--- what writing the table asks: rows filled for k, which some allowed table keeps
+-- what writing the table asks: the rows are filled for the least worst step
 pub record WriteAsks (x : Given) (k : ℕ) (words before : List ℕ) : Type 0 where
-  pub some : feasible x k ≡ true
+  pub least : k ≡ least_worst x
   pub rows : RowsGood x words k 0
-  pub there : 32 * length x.targets ≤ length words
-  pub small : k ≤ 1000 * 2 ^ 26
   pub fits : length x.targets ≤ length before
-
--- the lowest of the allowed tables whose worst step is at most k
-abbrev pub lowest_within : Given → (k : ℕ) → List ℕ
-lowest_within x k = tab (lowest_path (tables_within x k)) (length x.targets)
 
 -- what making it asks: room, and the bound that the lowest levels give
 pub record MakeAsks (x : Given) (bound : ℕ) (before words : List ℕ) : Type 0 where

@@ -7,6 +7,7 @@ ghost use Rattle.even.specs.Table.{has_no_table};
 ghost use Rattle.even.specs.Runs.{darkest, brightest, reaching, NotAbove, RunFound, AreRuns};
 ghost use Rattle.even.specs.Filled.{given, Workable};
 ghost use Rattle.even.specs.Steps.{IsSpan};
+ghost use Rattle.even.specs.Filling.{LastLit};
 
 use reach::{Run, Span};
 use units::Luminance;
@@ -32,6 +33,14 @@ struct Found<'a> {
     ends: &'a [u16],
     ghost are_runs: { AreRuns (given problem.curve.now problem.targets.now problem.tolerance) starts.now ends.now },
     ghost some_table: { has_no_table (given problem.curve.now problem.targets.now problem.tolerance) ≡ false },
+}
+
+// The rows of lit levels of such a problem, in lent words. The last row is lit, and those before it are filled from it.
+#[derive(Drop)]
+struct LitRows<'a> {
+    found: Found<'a>,
+    words: &'a mut [u32],
+    ghost last_lit: { LastLit (given found.problem.curve.now found.problem.targets.now found.problem.tolerance) words.now },
 }
 
 // The luminances that are allowed around a target. A std Range too ends past the last, but would not call its ends dark and bright.
@@ -167,7 +176,7 @@ impl Problem<'_> {
 impl Found<'_> {
     ghost use Rattle.even.specs.Problems.{given_of};
     ghost use Rattle.even.specs.Runs.{run_of};
-    ghost use Rattle.even.specs.Filling.{RowsAsk, RowsFilled, SearchAsks, Searched, WriteAsks, lowest_within, MakeAsks, Made};
+    ghost use Rattle.even.specs.Filling.{MakeAsks, Made};
 
     // The run of P-value p.
     fn run_at(&self, p: usize) -> Run
@@ -180,16 +189,49 @@ impl Found<'_> {
         }
     }
 
-    // Fills the rows before the last one, from the highest down, for a worst step of at most k; whether some allowed table has one.
-    fn fill_rows(&self, k: u64, work: &mut [u32]) -> bool
-        requires { RowsAsk (given_of self.now.problem) k work.old }
-        ensures { RowsFilled (given_of self.now.problem) k work.old work.new result }
+    // Fills the front of the table with the even table; its worst step.
+    fn make_table(&self, bound: u64, table: &mut [u16], work: &mut [u32]) -> u64
+        requires { MakeAsks (given_of self.now.problem) bound table.old work.old }
+        ensures { Made (given_of self.now.problem) table.old table.new work.old work.new result }
     {
-        let curve = self.problem.curve;
+        let last = self.problem.targets.len() - 1;
+        reach::light_run(work, last, self.run_at(last));
+        let mut rows = LitRows {
+            found: *self,
+            words: work,
+        };
+        let worst = rows.least_worst(bound);
+        rows.write_table(worst, table);
+        worst
+    }
+}
+
+impl LitRows<'_> {
+    ghost use Rattle.even.specs.Problems.{given_of};
+    ghost use Rattle.even.specs.Table.{lowest_levels, even_table};
+    ghost use Rattle.even.specs.Even.{worst_step};
+    ghost use Rattle.even.specs.Filling.{RowsFilled, Searched, WriteAsks};
+
+    // Fills the rows before the last one, from the highest down, for a worst step of at most k; whether some allowed table has one.
+    fn fill(&mut self, k: u64) -> bool
+        requires { k ≤ 1000 * 2 ^ 26 }
+        ensures same_words { self.new.words.ghost_name ≡ self.old.words.ghost_name }
+        ensures same_problem { self.new.found ≡ self.old.found }
+        ensures filled { RowsFilled (given_of self.old.found.problem) k self.old.words.now self.new.words.now result }
+    {
+        let found = self.found;
+        let problem = found.problem;
         // By place: a row is filled from the next one.
-        for p in (0..self.problem.targets.len() - 1).rev() {
-            let span = self.problem.span(k, p);
-            if !reach::fill_row(curve, work, p, self.run_at(p), self.run_at(p + 1), span) {
+        for p in (0..problem.targets.len() - 1).rev() {
+            let span = problem.span(k, p);
+            if !reach::fill_row(
+                problem.curve,
+                self.words,
+                p,
+                found.run_at(p),
+                found.run_at(p + 1),
+                span,
+            ) {
                 return false;
             }
         }
@@ -197,9 +239,11 @@ impl Found<'_> {
     }
 
     // The least worst step of all allowed tables, by halving what is left between 0 and a bound; the rows are filled for it.
-    fn least_worst(&self, bound: u64, work: &mut [u32]) -> u64
-        requires { SearchAsks (given_of self.now.problem) bound work.old }
-        ensures { Searched (given_of self.now.problem) work.old work.new result }
+    fn least_worst(&mut self, bound: u64) -> u64
+        requires { bound ≡ worst_step (given_of self.old.found.problem) (lowest_levels (given_of self.old.found.problem)) }
+        ensures same_words { self.new.words.ghost_name ≡ self.old.words.ghost_name }
+        ensures same_problem { self.new.found ≡ self.old.found }
+        ensures searched { Searched (given_of self.old.found.problem) self.old.words.now self.new.words.now result }
     {
         // By hand: std's partition_point searches a slice, and this halves a range of numbers.
         let mut low: u64 = 0;
@@ -208,7 +252,7 @@ impl Found<'_> {
         let mut ready = false;
         while low < high {
             let middle = low + (high - low) / 2;
-            ready = self.fill_rows(middle, work);
+            ready = self.fill(middle);
             if ready {
                 high = middle;
             } else {
@@ -216,42 +260,31 @@ impl Found<'_> {
             }
         }
         if !ready {
-            self.fill_rows(low, work);
+            self.fill(low);
         }
         low
     }
 
-    // Writes the table: at each P-value the lowest level that is lit and whose step from the level before fits. `work` is only read here, and written by
-    // what fills it: no struct holds both.
-    fn write_table(&self, k: u64, work: &[u32], table: &mut [u16])
-        requires { WriteAsks (given_of self.now.problem) k work.now table.old }
-        ensures { table.new ≡ lowest_within (given_of self.now.problem) k ++ drop (length self.now.problem.targets.now) table.old }
+    // Writes the table: at each P-value the lowest level that is lit and whose step from the level before fits.
+    fn write_table(&self, k: u64, table: &mut [u16])
+        requires { WriteAsks (given_of self.now.found.problem) k self.now.words.now table.old }
+        ensures { table.new ≡ even_table (given_of self.now.found.problem) ++ drop (length self.now.found.problem.targets.now) table.old }
     {
-        let curve = self.problem.curve;
-        let mut d = reach::first_lit(curve, work, 0, self.run_at(0), 0).unwrap();
+        let found = self.found;
+        let problem = found.problem;
+        let curve = problem.curve;
+        let mut d = reach::first_lit(curve, self.words, 0, found.run_at(0), 0).unwrap();
         table[0] = d as u16;
         // By place: each level is found from the one before it.
-        for p in 0..self.problem.targets.len() - 1 {
-            let least = u64::from(curve[d]) + self.problem.span(k, p).least;
-            let run = self.run_at(p + 1);
+        for p in 0..problem.targets.len() - 1 {
+            let least = u64::from(curve[d]) + problem.span(k, p).least;
+            let run = found.run_at(p + 1);
             let left = Run {
                 from: d.max(run.from),
                 to: run.to,
             };
-            d = reach::first_lit(curve, work, p + 1, left, least).unwrap();
+            d = reach::first_lit(curve, self.words, p + 1, left, least).unwrap();
             table[p + 1] = d as u16;
         }
-    }
-
-    // Fills the front of the table with the even table; its worst step.
-    fn make_table(&self, bound: u64, table: &mut [u16], work: &mut [u32]) -> u64
-        requires { MakeAsks (given_of self.now.problem) bound table.old work.old }
-        ensures { Made (given_of self.now.problem) table.old table.new work.old work.new result }
-    {
-        let last = self.problem.targets.len() - 1;
-        reach::light_run(work, last, self.run_at(last));
-        let worst = self.least_worst(bound, work);
-        self.write_table(worst, work, table);
-        worst
     }
 }
