@@ -13,10 +13,11 @@ use Rattle.laws.proofs.Cases.{no_is}
 use Rattle.laws.proofs.Search.{any_same}
 use Rattle.reach.specs.Rows.{RowAsks, RowFilled}
 use Rattle.reach.specs.declared.Run.{Run}
+use Rattle.reach.specs.declared.Span.{Span}
 use Rattle.even.specs.Even.{Given, target_step}
 use Rattle.even.specs.Table.{allowed_at, good_at, feasible, has_no_table, tables_within}
-use Rattle.even.specs.Runs.{run_from, run_to, run_of}
-use Rattle.even.specs.Steps.{least_step, most_step, IsSpan}
+use Rattle.even.specs.Runs.{run_of}
+use Rattle.even.specs.Steps.{span_of}
 use Rattle.even.specs.Filled.{Workable, KeptFrom}
 use Rattle.even.specs.Filling.{RowsGood, LastLit, RowsFilled}
 use Rattle.even.proofs.Paths.{good_last}
@@ -47,19 +48,18 @@ module _ {x : Given} {k : ℕ} {before : List ℕ} (ok : Workable x) (last : Las
     s : RowsSoFar x k before words (p + 1)
     s = grind arith
 
-    module _ {least most : ℕ} (span : IsSpan k (target_step x p) least most) where
-      asks_of : RowAsks x.curve words p (run_to x p) (run_to x (p + 1)) least most
+    module _ {span : Span} (span_is : span ≡ span_of x k p) where
+      asks_of : RowAsks x.curve words p (run_of x p) (run_of x (p + 1)) (span_of x k p)
       asks_of = grind (arith, reaching_top x.curve, mul-le-mul_right (target_step x p) small)
 
       -- by the runs that were read
-      pub row_asks : {run above : Run} → run ≡ run_of x p → above ≡ run_of x (p + 1) → RowAsks x.curve words p run.to above.to least most
-      row_asks here there = grind (arith, asks_of)
+      pub row_asks : {run above : Run} → run ≡ run_of x p → above ≡ run_of x (p + 1) → RowAsks x.curve words p run above span
+      row_asks here there = rw (here, there, span_is) asks_of
 
       module _ {run above : Run} (here : run ≡ run_of x p) (there : above ≡ run_of x (p + 1)) {after : List ℕ} {some : Bool}
-          (filled : RowFilled x.curve words after p run.from run.to above.from above.to least most some) where
-        as_defined : RowFilled x.curve words after p (run_from x p) (run_to x p) (run_from x (suc p)) (run_to x (suc p))
-            (least_step k (target_step x p)) (most_step k (target_step x p)) some
-        as_defined = rw (← span.least_is, ← span.most_is, ← add-one p) (rw (here, there) at filled)
+          (filled : RowFilled x.curve words after p run above span some) where
+        as_defined : RowFilled x.curve words after p (run_of x p) (run_of x (suc p)) (span_of x k p) some
+        as_defined = rw (here, there, span_is, add-one p) at filled
 
         rows_before : RowsGood x words k (suc p)
         rows_before = rw (← add-one p) s.good

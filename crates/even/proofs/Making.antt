@@ -8,7 +8,7 @@ use lib.ListN.{length}
 use Rattle.reach.specs.declared.Run.{Run}
 use Rattle.reach.specs.Rows.{RowThere, RunLit}
 use Rattle.even.specs.Even.{Given}
-use Rattle.even.specs.Runs.{brightest, run_from, run_to, run_of}
+use Rattle.even.specs.Runs.{brightest, run_of}
 use Rattle.even.specs.Filled.{Workable}
 use Rattle.even.specs.Filling.{LastLit, MakeAsks}
 use Rattle.even.proofs.Runs.{reaching_top, allowed_run}
@@ -21,8 +21,8 @@ module _ {x : Given} {bound : ℕ} {before words : List ℕ} (ok : Workable x)
   pub last_there : RowThere words last run.to
   last_there = grind (arith, reaching_top x.curve (brightest x (length x.targets - 1) + 1))
 
-  module _ {lighted : List ℕ} (lit : RunLit words lighted last run.from run.to) where
-    on : RunLit words lighted (length x.targets - 1) (run_from x (length x.targets - 1)) (run_to x (length x.targets - 1))
+  module _ {lighted : List ℕ} (lit : RunLit words lighted last run) where
+    on : RunLit words lighted (length x.targets - 1) (run_of x (length x.targets - 1))
     on = rw run_is at lit
 
     pub last_lit : LastLit x lighted

@@ -15,8 +15,8 @@ use Rattle.reach.specs.Rows.{reaches, RowKept, RowFilled}
 use Rattle.reach.proofs.Rows.{lit_same}
 use Rattle.even.specs.Even.{Given, target_step}
 use Rattle.even.specs.Table.{tables_within, good_at, feasible}
-use Rattle.even.specs.Runs.{run_from, run_to}
-use Rattle.even.specs.Steps.{least_step, most_step}
+use Rattle.even.specs.Runs.{run_from, run_to, run_of}
+use Rattle.even.specs.Steps.{least_step, most_step, span_of}
 use Rattle.even.specs.Filled.{Workable, KeptFrom}
 use Rattle.even.specs.Filling.{lit_at, RowsGood, LastLit}
 use Rattle.even.proofs.Paths.{good_step, good_last, lowest_path_lem, path_from, path_good}
@@ -67,7 +67,7 @@ module _ {x : Given} (ok : Workable x) where
       same_reach d = any_same _ _ (length x.curve) (λ e i. rw (good.lit_good (suc p) e (omega arith) l i))
 
       module _ {after : List ℕ} {some : Bool}
-          (filled : RowFilled x.curve words after p (run_from x p) (run_to x p) (run_from x (suc p)) (run_to x (suc p)) (least_step k (target_step x p)) (most_step k (target_step x p)) some) where
+          (filled : RowFilled x.curve words after p (run_of x p) (run_of x (suc p)) (span_of x k p) some) where
         row_good : (d : ℕ) → d < length x.curve → lit_at x after p d ≡ good_at x k p d
         row_good d h = rw (filled.here d h, good_by_step d h, add-one p, same_reach d)
 

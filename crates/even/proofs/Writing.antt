@@ -16,6 +16,7 @@ use Rattle.laws.proofs.Fill.{Filled, filled_none, filled_more}
 use Rattle.std.specs.Prelude.{Option, Some}
 use Rattle.std.specs.Option.{IsSome}
 use Rattle.reach.specs.declared.Run.{Run}
+use Rattle.reach.specs.declared.Span.{Span}
 use Rattle.reach.specs.Rows.{RowThere, First, FindsFirst}
 use Rattle.reach.proofs.Steps.{Fits, fits_is, is_fit}
 use Rattle.reach.proofs.Rows.{IsLit, lit_is, is_lit}
@@ -24,7 +25,7 @@ use Rattle.even.specs.Paths.{next, lowest_path}
 use Rattle.even.specs.Table.{has_no_table, step_within, tables_within, good_at, feasible, even_table}
 use Rattle.even.specs.Runs.{brightest, run_from, run_to, run_of}
 use Rattle.even.specs.Filled.{Workable}
-use Rattle.even.specs.Steps.{least_step, most_step, IsSpan}
+use Rattle.even.specs.Steps.{least_step, most_step, span_of}
 use Rattle.even.specs.Filling.{LastLit, WriteAsks}
 use Rattle.even.proofs.Paths.{Path, path_from, path_good, lowest_path_lem, next_good, next_is}
 use Rattle.even.proofs.Runs.{reaching_top}
@@ -35,15 +36,15 @@ use Rattle.even.proofs.Steps.{step_fits_lem}
 
 module _ (curve words : List ℕ) (p from to start least : ℕ) where
   -- where a lit level from the start on is bright enough, the search finds one
-  some_found : (found : Option ℕ) → FindsFirst curve words p to start least found → (e : ℕ) → IsLit words p from to e → start ≤ e → least ≤ get_or curve e 0
+  some_found : (found : Option ℕ) → FindsFirst curve words p (record { from = start; to = to }) least found → (e : ℕ) → IsLit words p from to e → start ≤ e → least ≤ get_or curve e 0
       → IsSome found
   some_found y1 h e lit a b = grind arith
 
   -- and that is what its number says
-  first_of : (found : Option ℕ) → FindsFirst curve words p to start least found → {r : ℕ} → found ≡ Some r → First curve words p to start least r
+  first_of : (found : Option ℕ) → FindsFirst curve words p (record { from = start; to = to }) least found → {r : ℕ} → found ≡ Some r → First curve words p to start least r
   first_of y1 h e = grind arith
 
-  first_below : (found : Option ℕ) → FindsFirst curve words p to start least found → {r : ℕ} → found ≡ Some r → r < to
+  first_below : (found : Option ℕ) → FindsFirst curve words p (record { from = start; to = to }) least found → {r : ℕ} → found ≡ Some r → r < to
   first_below y1 h e = grind arith
 
 module _ {curve words : List ℕ} {p from to start least r : ℕ} (first : First curve words p to start least r) where
@@ -80,7 +81,7 @@ module _ {x : Given} {k : ℕ} {words before : List ℕ} (ok : Workable x) (some
   lowest_good =
       good_lit 0 _ ok.usable.some_target (lowest_under (good_at x k 0) _ some_within) (lowest_passes (good_at x k 0) _ some_within)
 
-  pub level_some : (found : Option ℕ) → FindsFirst x.curve words 0 (run_to x 0) (run_from x 0) 0 found → IsSome found
+  pub level_some : (found : Option ℕ) → FindsFirst x.curve words 0 (run_of x 0) 0 found → IsSome found
   level_some found h = some_found x.curve words 0 (run_from x 0) (run_to x 0) (run_from x 0) 0 found h _ lowest_good lowest_good.low zero-le
 
   pub level_first : {r : ℕ} → First x.curve words 0 (run_to x 0) (run_from x 0) 0 r → r ≡ lowest_path (tables_within x k) 0
@@ -126,7 +127,7 @@ module _ {x : Given} {k : ℕ} {words before : List ℕ} (ok : Workable x) (some
 
     -- it is bright enough for a search that asks no more than the step to it
     pub next_some : (low : ℕ) → low ≤ F x d + least_step k (target_step x p) → (found : Option ℕ)
-        → FindsFirst x.curve words (suc p) (run_to x (suc p)) (max d (run_from x (suc p))) low found → IsSome found
+        → FindsFirst x.curve words (suc p) (record { from = max d (run_from x (suc p)); to = run_to x (suc p) }) low found → IsSome found
     next_some low small found h =
         some_found x.curve words (suc p) (run_from x (suc p)) (run_to x (suc p)) _ low found h follower follower_good
         (omega (arith, follower_step.low, follower_good.low)) (le_trans small follower_step.enough)
@@ -175,8 +176,8 @@ module _ {x : Given} {k : ℕ} {words before : List ℕ} (ok : Workable x) (some
 
   -- ---- the first P-value
 
-  module _ {run : Run} (run_is : run ≡ run_of x 0) (found : Option ℕ) (h : FindsFirst x.curve words 0 run.to run.from 0 found) where
-    start_found : FindsFirst x.curve words 0 (run_to x 0) (run_from x 0) 0 found
+  module _ {run : Run} (run_is : run ≡ run_of x 0) (found : Option ℕ) (h : FindsFirst x.curve words 0 run 0 found) where
+    start_found : FindsFirst x.curve words 0 (run_of x 0) 0 found
     start_found = rw run_is at h
 
     pub start_some : IsSome found
@@ -202,25 +203,25 @@ module _ {x : Given} {k : ℕ} {words before : List ℕ} (ok : Workable x) (some
 
     -- ---- the next P-value
 
-    module _ (m : p < length x.targets - 1) {run : Run} (run_is : run ≡ run_of x (p + 1)) {least most : ℕ} (span : IsSpan k (target_step x p) least most) where
+    module _ (m : p < length x.targets - 1) {run : Run} (run_is : run ≡ run_of x (p + 1)) {span : Span} (span_is : span ≡ span_of x k p) where
       good_here : T (good_at x k p d)
       good_here =
           rw w.level_is
           (path_good (tables_within x k) _ p (omega (arith, w.value)) (path_from (tables_within x k) _ 0 p zero-le path))
 
       -- a search that asks no more than the step finds a level
-      module _ (low : ℕ) (small : low ≤ F x d + least) (found : Option ℕ)
-          (h : FindsFirst x.curve words (p + 1) run.to (max d run.from) low found) where
+      module _ (low : ℕ) (small : low ≤ F x d + span.least) (found : Option ℕ)
+          (h : FindsFirst x.curve words (p + 1) (record { from = max d run.from; to = run.to }) low found) where
         pub after_some : IsSome found
-        after_some = next_some ok some asks p d (omega arith) good_here low (rw (← span.least_is) small) found (rw (add-one p) at (rw run_is at h))
+        after_some = next_some ok some asks p d (omega arith) good_here low (rw span_is at small) found (rw (add-one p) at (rw run_is at h))
 
         pub after_fits : {e : ℕ} → found ≡ Some e → e < 65536
         after_fits {e} is = omega (arith, first_below x.curve words (p + 1) (run_from x (p + 1)) _ _ low found h is, run_ends x (p + 1) run_is, ok.levels)
 
       module _ (found : Option ℕ)
-          (h : FindsFirst x.curve words (p + 1) run.to (max d run.from) (F x d + least) found) where
-        as_defined : FindsFirst x.curve words (suc p) (run_to x (suc p)) (max d (run_from x (suc p))) (F x d + least_step k (target_step x p)) found
-        as_defined = rw (← span.least_is, ← add-one p) (rw run_is at h)
+          (h : FindsFirst x.curve words (p + 1) (record { from = max d run.from; to = run.to }) (F x d + span.least) found) where
+        as_defined : FindsFirst x.curve words (suc p) (record { from = max d (run_from x (suc p)); to = run_to x (suc p) }) (F x d + least_step k (target_step x p)) found
+        as_defined = rw (run_is, span_is, add-one p) at h
 
         module _ {e : ℕ} (is : found ≡ Some e) where
           after_is : e ≡ lowest_path (tables_within x k) (p + 1)

@@ -6,7 +6,7 @@ ghost use Rattle.even.specs.Even.{step_deviation};
 ghost use Rattle.even.specs.Table.{has_no_table};
 ghost use Rattle.even.specs.Runs.{darkest, brightest, reaching, NotAbove, RunFound, AreRuns};
 ghost use Rattle.even.specs.Filled.{given, Workable};
-ghost use Rattle.even.specs.Steps.{IsSpan};
+ghost use Rattle.even.specs.Steps.{span_of};
 ghost use Rattle.even.specs.Filling.{LastLit};
 
 use reach::{Run, Span};
@@ -102,7 +102,7 @@ impl Problem<'_> {
     // The steps of luminance from p to the next P-value whose step deviation is at most k.
     fn span(&self, k: u64, p: usize) -> Span
         requires { (k ≤ 1000 * 2 ^ 26) × (p + 1 < length self.now.targets.now) }
-        ensures { IsSpan k (target_step (given_of self.now) p) result.least result.most }
+        ensures { result ≡ span_of (given_of self.now) k p }
     {
         let step = u64::from(self.wanted_step(p).0);
         let apart = k * step / 1000;

@@ -23,6 +23,6 @@ module _ {before words : List ℕ} {p from d : ℕ} (h : Lighting before words p
       let other = marked_other words (p * 1024 + d) inside in
       grind (arith, kept_mark h.kept d, marked_here words (p * 1024 + d) inside)
 
-  pub lighting_all : (to : ℕ) → to ≤ d → RunLit before words p from to
+  pub lighting_all : (to : ℕ) → to ≤ d → RunLit before words p (record { from = from; to = to })
   unfolding lit
   lighting_all to l = grind arith

@@ -3,6 +3,8 @@
 use Rattle.std.specs.Prelude.{ℕ, ◌+◌, ◌*◌, ◌^◌, max, ◌≤◌, ◌<◌, ◌≡◌, ◌⊎◌, Bool, true, ◌&&◌, List, Option, Some, None, leb, ltb, length, get_or}
 use Rattle.laws.specs.Search.{any}
 use Rattle.laws.specs.Rises.{NeverFalls}
+use Rattle.reach.specs.declared.Run.{Run}
+use Rattle.reach.specs.declared.Span.{Span}
 use Rattle.reach.specs.Bits.{bit_at}
 
 -- level d of the row of p is lit: it lies in the row's run and its bit is set
@@ -29,9 +31,9 @@ pub record RowThere (words : List ℕ) (p to : ℕ) : Type 0 where
   pub levels : to ≤ 1024
 
 -- every level of the run is lit
-pub record RunLit (before after : List ℕ) (p from to : ℕ) : Type 0 where
+pub record RunLit (before after : List ℕ) (p : ℕ) (run : Run) : Type 0 where
   pub kept : RowKept before after p
-  pub here : (d : ℕ) → lit after p from to d ≡ (leb from d && ltb d to)
+  pub here : (d : ℕ) → lit after p run.from run.to d ≡ (leb run.from d && ltb d run.to)
 
 -- r is the first level, from `from` to `to` − 1, with its bit set in row p and a luminance of at least `least`;
 -- where there is none, it is the larger of `from` and `to`
@@ -42,25 +44,25 @@ pub record First (curve words : List ℕ) (p to from least r : ℕ) : Type 0 whe
   pub set : r < to → bit_at words (p * 1024 + r) ≡ true
   pub enough : r < to → least ≤ get_or curve r 0
 
--- what a search of the levels `from` to `to` − 1 finds: that level, below `to`, or that there is none
-abbrev pub FindsFirst : (curve words : List ℕ) (p to from least : ℕ) → Option ℕ → Type 0
-FindsFirst curve words p to from least (Some r) = (r < to) × First curve words p to from least r
-FindsFirst curve words p to from least None = First curve words p to from least (max from to)
+-- what a search of the levels of a run finds: that level, below its end, or that there is none
+abbrev pub FindsFirst : (curve words : List ℕ) (p : ℕ) (run : Run) (least : ℕ) → Option ℕ → Type 0
+FindsFirst curve words p run least (Some r) = (r < run.to) × First curve words p run.to run.from least r
+FindsFirst curve words p run least None = First curve words p run.to run.from least (max run.from run.to)
 
 -- what filling row p from the next one asks
-pub record RowAsks (curve words : List ℕ) (p to next_to least most : ℕ) : Type 0 where
+pub record RowAsks (curve words : List ℕ) (p : ℕ) (run next : Run) (span : Span) : Type 0 where
   pub few : p < 2 ^ 32
   pub inside : p * 32 + 64 ≤ length words
   pub levels : length curve ≤ 1024
-  pub run : to ≤ length curve
-  pub next : next_to ≤ length curve
+  pub run_inside : run.to ≤ length curve
+  pub next_inside : next.to ≤ length curve
   pub never_falls : NeverFalls curve
-  pub least_small : least < 2 ^ 62
-  pub most_small : most < 2 ^ 62
+  pub least_small : span.least < 2 ^ 62
+  pub most_small : span.most < 2 ^ 62
 
 -- row p is filled from the next one, and `some` tells whether any level of it is lit
-pub record RowFilled (curve before after : List ℕ) (p from to next_from next_to least most : ℕ) (some : Bool) : Type 0 where
+pub record RowFilled (curve before after : List ℕ) (p : ℕ) (run next : Run) (span : Span) (some : Bool) : Type 0 where
   pub kept : RowKept before after p
   pub here : (d : ℕ) → d < length curve
-      → lit after p from to d ≡ (leb from d && (ltb d to && reaches curve (lit before (p + 1) next_from next_to) least most d))
-  pub found : some ≡ any (lit after p from to) (length curve)
+      → lit after p run.from run.to d ≡ (leb run.from d && (ltb d run.to && reaches curve (lit before (p + 1) next.from next.to) span.least span.most d))
+  pub found : some ≡ any (lit after p run.from run.to) (length curve)

@@ -46,7 +46,7 @@ fn mark(words: &mut [u32], place: usize)
 // Sets the bit of each level of the run in row p.
 pub fn light_run(words: &mut [u32], p: usize, run: Run)
     requires { RowThere words.old p run.to }
-    ensures { RunLit words.old words.new p run.from run.to }
+    ensures { RunLit words.old words.new p run }
 {
     let row = p * 1024;
     for d in run.from..run.to {
@@ -57,7 +57,7 @@ pub fn light_run(words: &mut [u32], p: usize, run: Run)
 // The first level of the run whose bit is set in row p and whose luminance is at least `least`.
 pub fn first_lit(curve: &[u32], words: &[u32], p: usize, run: Run, least: u64) -> Option<usize>
     requires { RowThere words.now p run.to × (run.to ≤ length curve.now) }
-    ensures { FindsFirst curve.now words.now p run.to run.from least result }
+    ensures { FindsFirst curve.now words.now p run least result }
 {
     let row = p * 32;
     (run.from..run.to).find(|&q| least <= u64::from(curve[q]) && test(words, row, q))
@@ -67,8 +67,8 @@ pub fn first_lit(curve: &[u32], words: &[u32], p: usize, run: Run, least: u64) -
 // The curve never falls, so the first level of `next` that is bright enough for each level never falls either.
 // Not a struct: `fill_row` writes the words that are only read here, and without them it would be no plainer.
 fn fill_word(curve: &[u32], words: &[u32], p: usize, run: Run, next: Run, span: Span) -> Word
-    requires { RowAsks curve.now words.now p run.to next.to span.least span.most × InWord run.from run.to }
-    ensures { WordFilled curve.now words.now p run.from run.to next.from next.to span.least span.most result.bits result.q }
+    requires { RowAsks curve.now words.now p run next span × InWord run }
+    ensures { WordFilled curve.now words.now p run next span result }
 {
     let mut bits: u32 = 0;
     let mut q = next.from;
@@ -98,8 +98,8 @@ fn fill_word(curve: &[u32], words: &[u32], p: usize, run: Run, next: Run, span: 
 // Fills row p from row p + 1: a level is lit where the step to some lit level there fits. True when some level is lit.
 // Each word of the run is written once, whole.
 pub fn fill_row(curve: &[u32], words: &mut [u32], p: usize, run: Run, next: Run, span: Span) -> bool
-    requires { RowAsks curve.now words.old p run.to next.to span.least span.most }
-    ensures { RowFilled curve.now words.old words.new p run.from run.to next.from next.to span.least span.most result }
+    requires { RowAsks curve.now words.old p run next span }
+    ensures { RowFilled curve.now words.old words.new p run next span result }
 {
     let mut gathered: u32 = 0;
     let mut q = next.from;
