@@ -49,16 +49,16 @@ module _ {x : Given} {k : ℕ} {before : List ℕ} (ok : Workable x) (last : Las
     s = grind arith
 
     module _ {span : Span} (span_is : span ≡ span_of x k p) where
-      asks_of : RowAsks x.curve words p (run_of x p) (run_of x (p + 1)) (span_of x k p)
+      asks_of : RowAsks x.curve words (run_of x p) (run_of x (p + 1)) (span_of x k p)
       asks_of = grind (arith, reaching_top x.curve, mul-le-mul_right (target_step x p) small)
 
       -- by the runs that were read
-      pub row_asks : {run above : Run} → run ≡ run_of x p → above ≡ run_of x (p + 1) → RowAsks x.curve words p run above span
+      pub row_asks : {run above : Run} → run ≡ run_of x p → above ≡ run_of x (p + 1) → RowAsks x.curve words run above span
       row_asks here there = rw (here, there, span_is) asks_of
 
       module _ {run above : Run} (here : run ≡ run_of x p) (there : above ≡ run_of x (p + 1)) {after : List ℕ} {some : Bool}
-          (filled : RowFilled x.curve words after p run above span some) where
-        as_defined : RowFilled x.curve words after p (run_of x p) (run_of x (suc p)) (span_of x k p) some
+          (filled : RowFilled x.curve words after run above span some) where
+        as_defined : RowFilled x.curve words after (run_of x p) (run_of x (suc p)) (span_of x k p) some
         as_defined = rw (here, there, span_is, add-one p) at filled
 
         rows_before : RowsGood x words k (suc p)

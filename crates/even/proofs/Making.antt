@@ -18,11 +18,11 @@ module _ {x : Given} {bound : ℕ} {before words : List ℕ} (ok : Workable x)
   abbrev last : ℕ
   last = length x.targets - 1
 
-  pub last_there : RowThere words last run.to
+  pub last_there : RowThere words run
   last_there = grind (arith, reaching_top x.curve (brightest x (length x.targets - 1) + 1))
 
-  module _ {lighted : List ℕ} (lit : RunLit words lighted last run) where
-    on : RunLit words lighted (length x.targets - 1) (run_of x (length x.targets - 1))
+  module _ {lighted : List ℕ} (lit : RunLit words lighted run) where
+    on : RunLit words lighted (run_of x (length x.targets - 1))
     on = rw run_is at lit
 
     pub last_lit : LastLit x lighted

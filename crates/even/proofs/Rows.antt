@@ -5,7 +5,6 @@ use mathlib.Core.Path.{◌≡◌, refl, ap, ap₂, ◌∙◌}
 use mathlib.Core.Logic.{inr}
 use mathlib.Core.Bool.{Bool, false, ◌&&◌, and_assoc, and_comm}
 use mathlib.Core.List.{List}
-use native.Mathlib.Numerals.{add-one}
 use native.Mathlib.Omega.{arith}
 use lib.Dec.{T, leb, ltb}
 use lib.ListN.{length}
@@ -67,9 +66,9 @@ module _ {x : Given} (ok : Workable x) where
       same_reach d = any_same _ _ (length x.curve) (λ e i. rw (good.lit_good (suc p) e (omega arith) l i))
 
       module _ {after : List ℕ} {some : Bool}
-          (filled : RowFilled x.curve words after p (run_of x p) (run_of x (suc p)) (span_of x k p) some) where
+          (filled : RowFilled x.curve words after (run_of x p) (run_of x (suc p)) (span_of x k p) some) where
         row_good : (d : ℕ) → d < length x.curve → lit_at x after p d ≡ good_at x k p d
-        row_good d h = rw (filled.here d h, good_by_step d h, add-one p, same_reach d)
+        row_good d h = rw (filled.here d h, good_by_step d h, same_reach d)
 
         pub rows_more : RowsGood x after k p
         rows_more = record { lit_good = λ q d a b h. grind (arith, row_good d, kept_row, lit_kept, good.lit_good q d) }

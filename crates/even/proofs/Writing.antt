@@ -36,15 +36,15 @@ use Rattle.even.proofs.Steps.{step_fits_lem}
 
 module _ (curve words : List ℕ) (p from to start least : ℕ) where
   -- where a lit level from the start on is bright enough, the search finds one
-  some_found : (found : Option ℕ) → FindsFirst curve words p (record { from = start; to = to }) least found → (e : ℕ) → IsLit words p from to e → start ≤ e → least ≤ get_or curve e 0
+  some_found : (found : Option ℕ) → FindsFirst curve words (record { p = p; from = start; to = to }) least found → (e : ℕ) → IsLit words p from to e → start ≤ e → least ≤ get_or curve e 0
       → IsSome found
   some_found y1 h e lit a b = grind arith
 
   -- and that is what its number says
-  first_of : (found : Option ℕ) → FindsFirst curve words p (record { from = start; to = to }) least found → {r : ℕ} → found ≡ Some r → First curve words p to start least r
+  first_of : (found : Option ℕ) → FindsFirst curve words (record { p = p; from = start; to = to }) least found → {r : ℕ} → found ≡ Some r → First curve words p to start least r
   first_of y1 h e = grind arith
 
-  first_below : (found : Option ℕ) → FindsFirst curve words p (record { from = start; to = to }) least found → {r : ℕ} → found ≡ Some r → r < to
+  first_below : (found : Option ℕ) → FindsFirst curve words (record { p = p; from = start; to = to }) least found → {r : ℕ} → found ≡ Some r → r < to
   first_below y1 h e = grind arith
 
 module _ {curve words : List ℕ} {p from to start least r : ℕ} (first : First curve words p to start least r) where
@@ -81,7 +81,7 @@ module _ {x : Given} {k : ℕ} {words before : List ℕ} (ok : Workable x) (some
   lowest_good =
       good_lit 0 _ ok.usable.some_target (lowest_under (good_at x k 0) _ some_within) (lowest_passes (good_at x k 0) _ some_within)
 
-  pub level_some : (found : Option ℕ) → FindsFirst x.curve words 0 (run_of x 0) 0 found → IsSome found
+  pub level_some : (found : Option ℕ) → FindsFirst x.curve words (run_of x 0) 0 found → IsSome found
   level_some found h = some_found x.curve words 0 (run_from x 0) (run_to x 0) (run_from x 0) 0 found h _ lowest_good lowest_good.low zero-le
 
   pub level_first : {r : ℕ} → First x.curve words 0 (run_to x 0) (run_from x 0) 0 r → r ≡ lowest_path (tables_within x k) 0
@@ -127,7 +127,7 @@ module _ {x : Given} {k : ℕ} {words before : List ℕ} (ok : Workable x) (some
 
     -- it is bright enough for a search that asks no more than the step to it
     pub next_some : (low : ℕ) → low ≤ F x d + least_step k (target_step x p) → (found : Option ℕ)
-        → FindsFirst x.curve words (suc p) (record { from = max d (run_from x (suc p)); to = run_to x (suc p) }) low found → IsSome found
+        → FindsFirst x.curve words (record { p = suc p; from = max d (run_from x (suc p)); to = run_to x (suc p) }) low found → IsSome found
     next_some low small found h =
         some_found x.curve words (suc p) (run_from x (suc p)) (run_to x (suc p)) _ low found h follower follower_good
         (omega (arith, follower_step.low, follower_good.low)) (le_trans small follower_step.enough)
@@ -163,8 +163,8 @@ run_ends x p is = rw is (reaching_top x.curve (brightest x p + 1))
 
 -- what the search for a level of a row asks
 pub row_there : {x : Given} {words : List ℕ} → Workable x → LastLit x words → (p : ℕ) → p < length x.targets → {run : Run} → run ≡ run_of x p
-    → RowThere words p run.to × (run.to ≤ length x.curve)
-row_there {x} ok last p l is = grind (arith, run_ends x p is)
+    → (from : ℕ) → RowThere words (record { p = run.p; from = from; to = run.to }) × (run.to ≤ length x.curve)
+row_there {x} ok last p l is from = grind (arith, run_ends x p is)
 
 module _ {x : Given} {k : ℕ} {words before : List ℕ} (ok : Workable x) (some : has_no_table x ≡ false) (asks : WriteAsks x k words before) where
   path : Path (tables_within x k) 0 (lowest_path (tables_within x k))
@@ -176,8 +176,8 @@ module _ {x : Given} {k : ℕ} {words before : List ℕ} (ok : Workable x) (some
 
   -- ---- the first P-value
 
-  module _ {run : Run} (run_is : run ≡ run_of x 0) (found : Option ℕ) (h : FindsFirst x.curve words 0 run 0 found) where
-    start_found : FindsFirst x.curve words 0 (run_of x 0) 0 found
+  module _ {run : Run} (run_is : run ≡ run_of x 0) (found : Option ℕ) (h : FindsFirst x.curve words run 0 found) where
+    start_found : FindsFirst x.curve words (run_of x 0) 0 found
     start_found = rw run_is at h
 
     pub start_some : IsSome found
@@ -211,16 +211,16 @@ module _ {x : Given} {k : ℕ} {words before : List ℕ} (ok : Workable x) (some
 
       -- a search that asks no more than the step finds a level
       module _ (low : ℕ) (small : low ≤ F x d + span.least) (found : Option ℕ)
-          (h : FindsFirst x.curve words (p + 1) (record { from = max d run.from; to = run.to }) low found) where
+          (h : FindsFirst x.curve words (record { p = run.p; from = max d run.from; to = run.to }) low found) where
         pub after_some : IsSome found
         after_some = next_some ok some asks p d (omega arith) good_here low (rw span_is at small) found (rw (add-one p) at (rw run_is at h))
 
         pub after_fits : {e : ℕ} → found ≡ Some e → e < 65536
-        after_fits {e} is = omega (arith, first_below x.curve words (p + 1) (run_from x (p + 1)) _ _ low found h is, run_ends x (p + 1) run_is, ok.levels)
+        after_fits {e} is = omega (arith, first_below x.curve words run.p (run_from x (p + 1)) _ _ low found h is, run_ends x (p + 1) run_is, ok.levels)
 
       module _ (found : Option ℕ)
-          (h : FindsFirst x.curve words (p + 1) (record { from = max d run.from; to = run.to }) (F x d + span.least) found) where
-        as_defined : FindsFirst x.curve words (suc p) (record { from = max d (run_from x (suc p)); to = run_to x (suc p) }) (F x d + least_step k (target_step x p)) found
+          (h : FindsFirst x.curve words (record { p = run.p; from = max d run.from; to = run.to }) (F x d + span.least) found) where
+        as_defined : FindsFirst x.curve words (record { p = suc p; from = max d (run_from x (suc p)); to = run_to x (suc p) }) (F x d + least_step k (target_step x p)) found
         as_defined = rw (run_is, span_is, add-one p) at h
 
         module _ {e : ℕ} (is : found ≡ Some e) where

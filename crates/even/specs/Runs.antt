@@ -27,7 +27,7 @@ abbrev pub run_to : Given → (p : ℕ) → ℕ
 run_to x p = reaching x.curve (brightest x p + 1)
 
 abbrev pub run_of : Given → (p : ℕ) → Run
-run_of x p = record { from = run_from x p; to = run_to x p }
+run_of x p = record { p = p; from = run_from x p; to = run_to x p }
 
 -- neither end lies above that of the run of p
 pub record NotAbove (x : Given) (p : ℕ) (run : Run) : Type 0 where

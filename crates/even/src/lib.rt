@@ -124,7 +124,7 @@ impl Problem<'_> {
         if to <= from {
             return None;
         }
-        Some(Run { from, to })
+        Some(Run { p, from, to })
     }
 
     // Finds the run of each P-value, and the worst step of the table of the lowest allowed levels, which bounds that of the even table;
@@ -133,7 +133,14 @@ impl Problem<'_> {
         requires { RunsAsk (given_of self.now) starts.old ends.old }
         ensures { RunsFound (given_of self.now) starts.new ends.new result }
     {
-        let mut run = self.run_up(0, Run { from: 0, to: 0 })?;
+        let mut run = self.run_up(
+            0,
+            Run {
+                p: 0,
+                from: 0,
+                to: 0,
+            },
+        )?;
         starts[0] = run.from as u16;
         ends[0] = run.to as u16;
         let mut worst: u64 = 0;
@@ -184,6 +191,7 @@ impl Found<'_> {
         ensures { result ≡ run_of (given_of self.now.problem) p }
     {
         Run {
+            p,
             from: usize::from(self.starts[p]),
             to: usize::from(self.ends[p]),
         }
@@ -195,7 +203,7 @@ impl Found<'_> {
         ensures { Made (given_of self.now.problem) table.old table.new work.old work.new result }
     {
         let last = self.problem.targets.len() - 1;
-        reach::light_run(work, last, self.run_at(last));
+        reach::light_run(work, self.run_at(last));
         let mut rows = LitRows {
             found: *self,
             words: work,
@@ -227,7 +235,6 @@ impl LitRows<'_> {
             if !reach::fill_row(
                 problem.curve,
                 self.words,
-                p,
                 found.run_at(p),
                 found.run_at(p + 1),
                 span,
@@ -273,7 +280,7 @@ impl LitRows<'_> {
         let found = self.found;
         let problem = found.problem;
         let curve = problem.curve;
-        let mut d = reach::first_lit(curve, self.words, 0, found.run_at(0), 0).unwrap();
+        let mut d = reach::first_lit(curve, self.words, found.run_at(0), 0).unwrap();
         table[0] = d as u16;
         // By place: each level is found from the one before it.
         for p in 0..problem.targets.len() - 1 {
@@ -281,9 +288,9 @@ impl LitRows<'_> {
             let run = found.run_at(p + 1);
             let left = Run {
                 from: d.max(run.from),
-                to: run.to,
+                ..run
             };
-            d = reach::first_lit(curve, self.words, p + 1, left, least).unwrap();
+            d = reach::first_lit(curve, self.words, left, least).unwrap();
             table[p + 1] = d as u16;
         }
     }

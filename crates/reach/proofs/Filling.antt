@@ -30,58 +30,58 @@ abbrev pub starts : (from i : ℕ) → ℕ
 starts from i = max from (i * 32)
 
 -- the run's levels in the words before word i are filled, and q is where the search for those of word i goes on
-pub record Filling (curve before words : List ℕ) (p : ℕ) (run next : Run) (span : Span) (gathered i q : ℕ) : Type 0 where
+pub record Filling (curve before words : List ℕ) (run next : Run) (span : Span) (gathered i q : ℕ) : Type 0 where
   pub next_low : next.from ≤ q
-  pub filled : RowFilled curve before words p (record { from = run.from; to = min (starts run.from i) run.to }) next span (ltb 0 gathered)
-  pub skipped : Skipped curve (lit before (p + 1) next.from next.to) span.least (starts run.from i) q
+  pub filled : RowFilled curve before words (record { p = run.p; from = run.from; to = min (starts run.from i) run.to }) next span (ltb 0 gathered)
+  pub skipped : Skipped curve (lit before next.p next.from next.to) span.least (starts run.from i) q
 
 -- nothing is filled yet
-pub filling_none : (curve words : List ℕ) (p : ℕ) (run next : Run) (span : Span)
-    → Filling curve words words p run next span 0 (run.from / 32) next.from
+pub filling_none : (curve words : List ℕ) (run next : Run) (span : Span)
+    → Filling curve words words run next span 0 (run.from / 32) next.from
 unfolding lit
-filling_none curve words p run next span = grind (arith, kept_none words p, any_none (lit words p run.from (min (starts run.from (run.from / 32)) run.to)) (length curve), lit_is words (p + 1) next.from next.to)
+filling_none curve words run next span = grind (arith, kept_none words run.p, any_none (lit words run.p run.from (min (starts run.from (run.from / 32)) run.to)) (length curve), lit_is words next.p next.from next.to)
 
 -- word i of the row is stored, with its bits for the levels d to `end` − 1
-module _ {curve before words : List ℕ} {p gathered i q d end : ℕ} {run next : Run} {span : Span} {word : Word}
-    (asks : RowAsks curve before p run next span) (h : Filling curve before words p run next span gathered i q)
+module _ {curve before words : List ℕ} {gathered i q d end : ℕ} {run next : Run} {span : Span} {word : Word}
+    (asks : RowAsks curve before run next span) (h : Filling curve before words run next span gathered i q)
     (after_first : run.from / 32 ≤ i) (inside : i * 32 < run.to) (begins : d ≡ starts run.from i) (ends : end ≡ min run.to (i * 32 + 32))
-    (done : WordFilled curve words p (record { from = d; to = end }) (record { from = q; to = next.to }) span word) where
+    (done : WordFilled curve words (record { p = run.p; from = d; to = end }) (record { p = next.p; from = q; to = next.to }) span word) where
   abbrev after : List ℕ
-  after = set words (p * 32 + i) word.bits
+  after = set words (run.p * 32 + i) word.bits
 
   abbrev below : ℕ
   below = min (starts run.from i) run.to
 
   -- the levels below d are in other words
-  old_bit : (e : ℕ) → run.from ≤ e → e < d → bit_at after (p * 1024 + e) ≡ bit_at words (p * 1024 + e)
-  old_bit e a b = bit_same after words (p * 1024 + e) (get_or-set_other words _ _ word.bits 0 (λ s. omega arith))
+  old_bit : (e : ℕ) → run.from ≤ e → e < d → bit_at after (run.p * 1024 + e) ≡ bit_at words (run.p * 1024 + e)
+  old_bit e a b = bit_same after words (run.p * 1024 + e) (get_or-set_other words _ _ word.bits 0 (λ s. omega arith))
 
   -- and those from d on in this one
-  new_bit : (e : ℕ) → d ≤ e → e < end → bit_at after (p * 1024 + e) ≡ eqb (digit word.bits (e % 32)) 1
+  new_bit : (e : ℕ) → d ≤ e → e < end → bit_at after (run.p * 1024 + e) ≡ eqb (digit word.bits (e % 32)) 1
   new_bit e a b =
       let same : e / 32 ≡ i = omega arith in
-      row_bit after p e ∙ rw (same, get_or-set_same words (p * 32 + i) word.bits 0 (omega (arith, h.filled.kept.len))) refl
+      row_bit after run.p e ∙ rw (same, get_or-set_same words (run.p * 32 + i) word.bits 0 (omega (arith, h.filled.kept.len))) refl
 
   -- the next row is as before
-  next_row : lit words (p + 1) q next.to ≡ lit before (p + 1) q next.to
-  next_row = row_kept h.filled.kept (p + 1) (inr (omega arith)) q next.to (omega arith)
+  next_row : lit words next.p q next.to ≡ lit before next.p q next.to
+  next_row = row_kept h.filled.kept next.p (inr (omega arith)) q next.to (omega arith)
 
   -- each bit is what it is to be
-  bits_here : (e : ℕ) → run.from ≤ e → e < end → e < length curve → bit_at after (p * 1024 + e) ≡ reaches curve (lit before (p + 1) next.from next.to) span.least span.most e
+  bits_here : (e : ℕ) → run.from ≤ e → e < end → e < length curve → bit_at after (run.p * 1024 + e) ≡ reaches curve (lit before next.p next.from next.to) span.least span.most e
   unfolding lit
-  bits_here e a b u = grind (arith, new_bit e, old_bit e a, done.here (e % 32), next_row, h.filled.here e u, reaches_later before (p + 1) next.to asks.never_falls h.next_low h.skipped span.most e)
+  bits_here e a b u = grind (arith, new_bit e, old_bit e a, done.here (e % 32), next_row, h.filled.here e u, reaches_later before next.p next.to asks.never_falls h.next_low h.skipped span.most e)
 
-  lit_here : (e : ℕ) → run.from ≤ e → e < end → bit_at after (p * 1024 + e) ≡ true → any (lit after p run.from end) (length curve) ≡ true
-  lit_here e a b on = is_yes _ (any_intro (lit after p run.from end) (length curve) e (omega arith) (grind (arith, is_lit after p run.from end e)))
+  lit_here : (e : ℕ) → run.from ≤ e → e < end → bit_at after (run.p * 1024 + e) ≡ true → any (lit after run.p run.from end) (length curve) ≡ true
+  lit_here e a b on = is_yes _ (any_intro (lit after run.p run.from end) (length curve) e (omega arith) (grind (arith, is_lit after run.p run.from end e)))
 
   -- some level is lit where what is gathered is not zero
-  some_lit : 0 < bit_or gathered word.bits → any (lit after p run.from end) (length curve) ≡ true
+  some_lit : 0 < bit_or gathered word.bits → any (lit after run.p run.from end) (length curve) ≡ true
   some_lit pos =
       ⊎_elim
       (λ (g : 0 < gathered).
-      some_of (lit words p run.from below) (length curve) (sym h.filled.found ∙ lt-ltb 0 gathered g)
+      some_of (lit words run.p run.from below) (length curve) (sym h.filled.found ∙ lt-ltb 0 gathered g)
       (λ e u on.
-      let at = lit_is words p run.from below e on in
+      let at = lit_is words run.p run.from below e on in
       lit_here e at.low (omega arith) (old_bit e at.low (omega arith) ∙ at.bit)))
       (λ (g : 0 < word.bits).
       some_digit word.bits g
@@ -89,27 +89,27 @@ module _ {curve before words : List ℕ} {p gathered i q d end : ℕ} {run next 
       (or_either gathered word.bits pos)
 
   -- and only there
-  lit_some : any (lit after p run.from end) (length curve) ≡ true → 0 < bit_or gathered word.bits
+  lit_some : any (lit after run.p run.from end) (length curve) ≡ true → 0 < bit_or gathered word.bits
   lit_some found =
-      some_of (lit after p run.from end) (length curve) found
+      some_of (lit after run.p run.from end) (length curve) found
       (λ e u on.
-      let at = lit_is after p run.from end e on in
-      let some = any_intro (lit words p run.from below) (length curve) e u in
-      let was = is_lit words p run.from below e in
+      let at = lit_is after run.p run.from end e on in
+      let some = any_intro (lit words run.p run.from below) (length curve) e u in
+      let was = is_lit words run.p run.from below e in
       grind (arith, new_bit e, old_bit e, digit_pos word.bits (e % 32), le_or_r gathered word.bits, le_or_l gathered word.bits))
 
-  pub filling_more : Filling curve before after p run next span (bit_or gathered word.bits) (i + 1) word.q
+  pub filling_more : Filling curve before after run next span (bit_or gathered word.bits) (i + 1) word.q
   unfolding lit
   filling_more = record {
     next_low = omega (arith, h.next_low, done.after);
     filled =
         let e : min (starts run.from (i + 1)) run.to ≡ end = omega arith in
         rw e record {
-          kept = kept_set h.filled.kept (p * 32 + i) word.bits (omega arith) (omega arith);
+          kept = kept_set h.filled.kept (run.p * 32 + i) word.bits (omega arith) (omega arith);
           here = λ e u. grind (arith, bits_here e);
           found = grind (arith, some_lit, lit_some);
         };
     skipped =
-        skipped_later before (p + 1) next.to asks.never_falls h.next_low h.skipped (starts run.from (i + 1)) word.q (omega arith)
+        skipped_later before next.p next.to asks.never_falls h.next_low h.skipped (starts run.from (i + 1)) word.q (omega arith)
         (skipped_next curve _ span.least 0 (max d end) asks.never_falls (rw next_row at done.skipped) (starts run.from (i + 1)) (omega arith));
   }

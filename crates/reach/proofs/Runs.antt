@@ -17,12 +17,12 @@ pub record Lighting (before words : List ℕ) (p from d : ℕ) : Type 0 where
   pub set : (e : ℕ) → from ≤ e → e < d → bit_at words (p * 1024 + e) ≡ true
 
 module _ {before words : List ℕ} {p from d : ℕ} (h : Lighting before words p from d) where
-  pub lighting_more : {to : ℕ} → RowThere before p to → d < to → Lighting before (marked words (p * 1024 + d)) p from (d + 1)
+  pub lighting_more : {to : ℕ} → RowThere before (record { p = p; from = from; to = to }) → d < to → Lighting before (marked words (p * 1024 + d)) p from (d + 1)
   lighting_more there l =
       let inside : p * 1024 + d < 32 * length words = omega arith in
       let other = marked_other words (p * 1024 + d) inside in
       grind (arith, kept_mark h.kept d, marked_here words (p * 1024 + d) inside)
 
-  pub lighting_all : (to : ℕ) → to ≤ d → RunLit before words p (record { from = from; to = to })
+  pub lighting_all : (to : ℕ) → to ≤ d → RunLit before words (record { p = p; from = from; to = to })
   unfolding lit
   lighting_all to l = grind arith

@@ -25,15 +25,15 @@ pub record RowKept (before after : List ℕ) (p : ℕ) : Type 0 where
   pub words : (i : ℕ) → (i < p * 32) ⊎ (p * 32 + 32 ≤ i) → get_or after i 0 ≡ get_or before i 0
 
 -- what a row asks: its words are there, and its run ends in it
-pub record RowThere (words : List ℕ) (p to : ℕ) : Type 0 where
-  pub few : p ≤ 2 ^ 32
-  pub inside : p * 32 + 32 ≤ length words
-  pub levels : to ≤ 1024
+pub record RowThere (words : List ℕ) (run : Run) : Type 0 where
+  pub few : run.p ≤ 2 ^ 32
+  pub inside : run.p * 32 + 32 ≤ length words
+  pub levels : run.to ≤ 1024
 
 -- every level of the run is lit
-pub record RunLit (before after : List ℕ) (p : ℕ) (run : Run) : Type 0 where
-  pub kept : RowKept before after p
-  pub here : (d : ℕ) → lit after p run.from run.to d ≡ (leb run.from d && ltb d run.to)
+pub record RunLit (before after : List ℕ) (run : Run) : Type 0 where
+  pub kept : RowKept before after run.p
+  pub here : (d : ℕ) → lit after run.p run.from run.to d ≡ (leb run.from d && ltb d run.to)
 
 -- r is the first level, from `from` to `to` − 1, with its bit set in row p and a luminance of at least `least`;
 -- where there is none, it is the larger of `from` and `to`
@@ -45,14 +45,15 @@ pub record First (curve words : List ℕ) (p to from least r : ℕ) : Type 0 whe
   pub enough : r < to → least ≤ get_or curve r 0
 
 -- what a search of the levels of a run finds: that level, below its end, or that there is none
-abbrev pub FindsFirst : (curve words : List ℕ) (p : ℕ) (run : Run) (least : ℕ) → Option ℕ → Type 0
-FindsFirst curve words p run least (Some r) = (r < run.to) × First curve words p run.to run.from least r
-FindsFirst curve words p run least None = First curve words p run.to run.from least (max run.from run.to)
+abbrev pub FindsFirst : (curve words : List ℕ) (run : Run) (least : ℕ) → Option ℕ → Type 0
+FindsFirst curve words run least (Some r) = (r < run.to) × First curve words run.p run.to run.from least r
+FindsFirst curve words run least None = First curve words run.p run.to run.from least (max run.from run.to)
 
--- what filling row p from the next one asks
-pub record RowAsks (curve words : List ℕ) (p : ℕ) (run next : Run) (span : Span) : Type 0 where
-  pub few : p < 2 ^ 32
-  pub inside : p * 32 + 64 ≤ length words
+-- what filling a row from the next one asks
+pub record RowAsks (curve words : List ℕ) (run next : Run) (span : Span) : Type 0 where
+  pub few : run.p < 2 ^ 32
+  pub inside : run.p * 32 + 64 ≤ length words
+  pub one_after : next.p ≡ run.p + 1
   pub levels : length curve ≤ 1024
   pub run_inside : run.to ≤ length curve
   pub next_inside : next.to ≤ length curve
@@ -60,9 +61,9 @@ pub record RowAsks (curve words : List ℕ) (p : ℕ) (run next : Run) (span : S
   pub least_small : span.least < 2 ^ 62
   pub most_small : span.most < 2 ^ 62
 
--- row p is filled from the next one, and `some` tells whether any level of it is lit
-pub record RowFilled (curve before after : List ℕ) (p : ℕ) (run next : Run) (span : Span) (some : Bool) : Type 0 where
-  pub kept : RowKept before after p
+-- a row is filled from the next one, and `some` tells whether any level of it is lit
+pub record RowFilled (curve before after : List ℕ) (run next : Run) (span : Span) (some : Bool) : Type 0 where
+  pub kept : RowKept before after run.p
   pub here : (d : ℕ) → d < length curve
-      → lit after p run.from run.to d ≡ (leb run.from d && (ltb d run.to && reaches curve (lit before (p + 1) next.from next.to) span.least span.most d))
-  pub found : some ≡ any (lit after p run.from run.to) (length curve)
+      → lit after run.p run.from run.to d ≡ (leb run.from d && (ltb d run.to && reaches curve (lit before next.p next.from next.to) span.least span.most d))
+  pub found : some ≡ any (lit after run.p run.from run.to) (length curve)

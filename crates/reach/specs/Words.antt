@@ -18,10 +18,10 @@ pub record Skipped (curve : List ℕ) (next : ℕ → Bool) (least d q : ℕ) : 
 abbrev pub level_of : (d k : ℕ) → ℕ
 level_of d k = d / 32 * 32 + k
 
--- the word of row p that holds the levels of a run: a bit is set where its level is one of them and reaches the next row.
+-- the word of the row that holds the levels of a run: a bit is set where its level is one of them and reaches the next row.
 -- The search for the levels after them goes on at word.q
-pub record WordFilled (curve words : List ℕ) (p : ℕ) (run next : Run) (span : Span) (word : Word) : Type 0 where
+pub record WordFilled (curve words : List ℕ) (run next : Run) (span : Span) (word : Word) : Type 0 where
   pub here : (k : ℕ) → eqb (digit word.bits k) 1
-      ≡ (leb run.from (level_of run.from k) && (ltb (level_of run.from k) run.to && reaches curve (lit words (p + 1) next.from next.to) span.least span.most (level_of run.from k)))
+      ≡ (leb run.from (level_of run.from k) && (ltb (level_of run.from k) run.to && reaches curve (lit words next.p next.from next.to) span.least span.most (level_of run.from k)))
   pub after : next.from ≤ word.q
-  pub skipped : Skipped curve (lit words (p + 1) next.from next.to) span.least (max run.from run.to) word.q
+  pub skipped : Skipped curve (lit words next.p next.from next.to) span.least (max run.from run.to) word.q

@@ -6,9 +6,10 @@ ghost use Rattle.reach.specs.Bits.{bit_at, marked};
 ghost use Rattle.reach.specs.Rows.{RowThere, RunLit, FindsFirst, RowAsks, RowFilled};
 ghost use Rattle.reach.specs.Words.{InWord, WordFilled};
 
-// The levels `from` to `to` - 1 of a row. A std Range is not Copy.
+// The levels `from` to `to` - 1 of row p. A std Range is not Copy.
 #[derive(Clone, Copy)]
 pub struct Run {
+    pub p: usize,
     pub from: usize,
     pub to: usize,
 }
@@ -43,46 +44,46 @@ fn mark(words: &mut [u32], place: usize)
     words[place / 32] |= 1 << (place % 32);
 }
 
-// Sets the bit of each level of the run in row p.
-pub fn light_run(words: &mut [u32], p: usize, run: Run)
-    requires { RowThere words.old p run.to }
-    ensures { RunLit words.old words.new p run }
+// Sets the bit of each level of the run.
+pub fn light_run(words: &mut [u32], run: Run)
+    requires { RowThere words.old run }
+    ensures { RunLit words.old words.new run }
 {
-    let row = p * 1024;
+    let row = run.p * 1024;
     for d in run.from..run.to {
         mark(words, row + d);
     }
 }
 
-// The first level of the run whose bit is set in row p and whose luminance is at least `least`.
-pub fn first_lit(curve: &[u32], words: &[u32], p: usize, run: Run, least: u64) -> Option<usize>
-    requires { RowThere words.now p run.to × (run.to ≤ length curve.now) }
-    ensures { FindsFirst curve.now words.now p run least result }
+// The first level of the run whose bit is set and whose luminance is at least `least`.
+pub fn first_lit(curve: &[u32], words: &[u32], run: Run, least: u64) -> Option<usize>
+    requires { RowThere words.now run × (run.to ≤ length curve.now) }
+    ensures { FindsFirst curve.now words.now run least result }
 {
-    let row = p * 32;
+    let row = run.p * 32;
     (run.from..run.to).find(|&q| least <= u64::from(curve[q]) && test(words, row, q))
 }
 
-// Finds the bits of one word of row p, from row p + 1: those of the levels of `run`, which lie in one word.
+// Finds the bits of one word of a row, from the next row: those of the levels of `run`, which lie in one word.
 // The curve never falls, so the first level of `next` that is bright enough for each level never falls either.
 // Not a struct: `fill_row` writes the words that are only read here, and without them it would be no plainer.
-fn fill_word(curve: &[u32], words: &[u32], p: usize, run: Run, next: Run, span: Span) -> Word
-    requires { RowAsks curve.now words.now p run next span × InWord run }
-    ensures { WordFilled curve.now words.now p run next span result }
+fn fill_word(curve: &[u32], words: &[u32], run: Run, next: Run, span: Span) -> Word
+    requires { RowAsks curve.now words.now run next span × InWord run }
+    ensures { WordFilled curve.now words.now run next span result }
 {
     let mut bits: u32 = 0;
     let mut q = next.from;
     for d in run.from..run.to {
         let left = Run {
             from: q.max(d),
-            to: next.to,
+            ..next
         };
         if left.to <= left.from {
             // No level of the next row is left, for d or a later one.
             break;
         }
         let luminance = u64::from(curve[d]);
-        match first_lit(curve, words, p + 1, left, luminance + span.least) {
+        match first_lit(curve, words, left, luminance + span.least) {
             Some(lit) => {
                 q = lit;
                 if u64::from(curve[lit]) <= luminance + span.most {
@@ -95,11 +96,11 @@ fn fill_word(curve: &[u32], words: &[u32], p: usize, run: Run, next: Run, span: 
     Word { bits, q }
 }
 
-// Fills row p from row p + 1: a level is lit where the step to some lit level there fits. True when some level is lit.
+// Fills a row from the next one: a level is lit where the step to some lit level there fits. True when some level is lit.
 // Each word of the run is written once, whole.
-pub fn fill_row(curve: &[u32], words: &mut [u32], p: usize, run: Run, next: Run, span: Span) -> bool
-    requires { RowAsks curve.now words.old p run next span }
-    ensures { RowFilled curve.now words.old words.new p run next span result }
+pub fn fill_row(curve: &[u32], words: &mut [u32], run: Run, next: Run, span: Span) -> bool
+    requires { RowAsks curve.now words.old run next span }
+    ensures { RowFilled curve.now words.old words.new run next span result }
 {
     let mut gathered: u32 = 0;
     let mut q = next.from;
@@ -108,13 +109,11 @@ pub fn fill_row(curve: &[u32], words: &mut [u32], p: usize, run: Run, next: Run,
         let part = Run {
             from: run.from.max(i * 32),
             to: run.to.min(i * 32 + 32),
+            ..run
         };
-        let left = Run {
-            from: q,
-            to: next.to,
-        };
-        let word = fill_word(curve, words, p, part, left, span);
-        let place = p * 32 + i;
+        let left = Run { from: q, ..next };
+        let word = fill_word(curve, words, part, left, span);
+        let place = run.p * 32 + i;
         words[place] = word.bits;
         gathered |= word.bits;
         q = word.q;

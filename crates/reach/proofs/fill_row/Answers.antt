@@ -4,7 +4,7 @@ use Rattle.reach.proofs.Filling.{filling_none, filling_more}
 use Rattle.reach.proofs.fill_row.Goals as goal
 
 pub loop-i-init : goal.loop-i-init
-loop-i-init c = filling_none _ _ _ _ _ _
+loop-i-init c = filling_none _ _ _ _ _
 
 pub loop-i-preserved : goal.loop-i-preserved
 loop-i-preserved c =

@@ -4,4 +4,4 @@ use Rattle.reach.proofs.fill_row.Given as goal
 
 abbrev pub invariant-loop-i : goal.invariant-loop-i
 invariant-loop-i l =
-    Filling l.curve l.initial.words l.words l.p l.run l.next l.span l.gathered l.i l.q
+    Filling l.curve l.initial.words l.words l.run l.next l.span l.gathered l.i l.q

@@ -9,7 +9,7 @@ use Rattle.reach.proofs.fill_word.Goals as goal
 use Rattle.reach.proofs.fill_word.Goals.{in-Some+then-from-luminance, in-Some+else-from-luminance, in-None}
 
 pub loop-d-init : goal.loop-d-init
-loop-d-init c = gathering_none _ _ _ _ _ _
+loop-d-init c = gathering_none _ _ _ _ _
 
 pub loop-d-preserved : goal.loop-d-preserved
 loop-d-preserved c =

@@ -4,4 +4,4 @@ use Rattle.reach.proofs.fill_word.Given as goal
 
 abbrev pub invariant-loop-d : goal.invariant-loop-d
 invariant-loop-d l =
-    Gathering l.curve l.words l.p l.fn.run l.next l.span l.bits l.d l.q
+    Gathering l.curve l.words l.fn.run l.next l.span l.bits l.d l.q

@@ -6,7 +6,7 @@ use Rattle.even.proofs.Writing.{row_there, start_some, start_fits, writing_first
 use Rattle.even.proofs.LitRows.write_table.Goals as goal
 
 pub first_lit-requires : goal.first_lit-requires
-first_lit-requires c = row_there c.args.self.now.found.problem.workable c.args.self.now.last_lit 0 c.args.self.now.found.problem.workable.usable.some_target c.run_at.ensures
+first_lit-requires c = row_there c.args.self.now.found.problem.workable c.args.self.now.last_lit 0 c.args.self.now.found.problem.workable.usable.some_target c.run_at.ensures _
 
 pub unwrap-d-requires : goal.unwrap-d-requires
 unwrap-d-requires c = start_some c.args.self.now.found.problem.workable c.args.self.now.found.some_table c.requires c.run_at.ensures _ c.first_lit.ensures
@@ -24,7 +24,7 @@ pub bounds-curve-d : goal.bounds-curve-d
 bounds-curve-d c = level_small c.args.self.now.found.problem.workable c.args.self.now.found.some_table c.requires c.loop-p.invariant
 
 pub first_lit-requires-in-loop-p : goal.first_lit-requires-in-loop-p
-first_lit-requires-in-loop-p c = row_there c.args.self.now.found.problem.workable c.args.self.now.last_lit (c.loop-p.p + 1) (omega arith) c.run_at-run.ensures
+first_lit-requires-in-loop-p c = row_there c.args.self.now.found.problem.workable c.args.self.now.last_lit (c.loop-p.p + 1) (omega arith) c.run_at-run.ensures _
 
 pub unwrap-d-requires-in-loop-p : goal.unwrap-d-requires-in-loop-p
 unwrap-d-requires-in-loop-p c = after_some c.args.self.now.found.problem.workable c.args.self.now.found.some_table c.requires c.loop-p.invariant c.loop-p-test.true c.run_at-run.ensures c.span.ensures _ (omega (arith, c.from.ensures)) _ (rw c.max.ensures at c.first_lit-in-loop-p.ensures)
