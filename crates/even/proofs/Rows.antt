@@ -12,10 +12,10 @@ use Rattle.laws.specs.Search.{any}
 use Rattle.laws.proofs.Search.{any_intro, any_same}
 use Rattle.reach.specs.Rows.{reaches, RowKept, RowFilled}
 use Rattle.reach.proofs.Rows.{lit_same}
-use Rattle.even.specs.Even.{Given, target_step}
+use Rattle.even.specs.Even.{Given}
 use Rattle.even.specs.Table.{tables_within, good_at, feasible}
 use Rattle.even.specs.Runs.{run_from, run_to, run_of}
-use Rattle.even.specs.Steps.{least_step, most_step, span_of}
+use Rattle.even.specs.Steps.{span_of}
 use Rattle.even.specs.Filled.{Workable, KeptFrom}
 use Rattle.even.specs.Filling.{lit_at, RowsGood, LastLit}
 use Rattle.even.proofs.Paths.{good_step, good_last, lowest_path_lem, path_from, path_good}
@@ -36,7 +36,7 @@ kept_row l k = record { len = k.len; words = λ i h. k.words i (inr (omega arith
 module _ {x : Given} (ok : Workable x) where
   -- the lit levels of a row that is kept
   pub lit_kept : {p : ℕ} {a b : List ℕ} → KeptFrom p a b → (q d : ℕ) → p ≤ q → d < length x.curve → lit_at x b q d ≡ lit_at x a q d
-  lit_kept {p} {a} {b} k q d l h = lit_same b a q _ _ d (omega (arith, ok.levels)) (λ i m n. k.words i (omega arith))
+  lit_kept {p} {a} {b} k q d l h = lit_same b a (run_of x q) d (omega (arith, ok.levels)) (λ i m n. k.words i (omega arith))
 
   pub last_kept : {a b : List ℕ} → KeptFrom (length x.targets - 1) a b → LastLit x a → LastLit x b
   last_kept k h = grind (arith, lit_kept k (length x.targets - 1), h.lit_last)
@@ -50,7 +50,7 @@ module _ {x : Given} (ok : Workable x) where
 
   module _ (k p : ℕ) (l : suc p < length x.targets) where
     good_by_step : (d : ℕ) → d < length x.curve
-        → good_at x k p d ≡ (leb (run_from x p) d && (ltb d (run_to x p) && reaches x.curve (good_at x k (suc p)) (least_step k (target_step x p)) (most_step k (target_step x p)) d))
+        → good_at x k p d ≡ (leb (run_from x p) d && (ltb d (run_to x p) && reaches x.curve (good_at x k (suc p)) (span_of x k p) d))
     unfolding reaches
     good_by_step d h =
         good_step (tables_within x k) p d (omega arith)
@@ -60,8 +60,8 @@ module _ {x : Given} (ok : Workable x) where
         ∙ and_assoc (leb (run_from x p) d) (ltb d (run_to x p)) _
 
     module _ {words : List ℕ} (good : RowsGood x words k (suc p)) where
-      same_reach : (d : ℕ) → reaches x.curve (lit_at x words (suc p)) (least_step k (target_step x p)) (most_step k (target_step x p)) d
-          ≡ reaches x.curve (good_at x k (suc p)) (least_step k (target_step x p)) (most_step k (target_step x p)) d
+      same_reach : (d : ℕ) → reaches x.curve (lit_at x words (suc p)) (span_of x k p) d
+          ≡ reaches x.curve (good_at x k (suc p)) (span_of x k p) d
       unfolding reaches
       same_reach d = any_same _ _ (length x.curve) (λ e i. rw (good.lit_good (suc p) e (omega arith) l i))
 

@@ -12,7 +12,7 @@ use Rattle.reach.specs.Rows.{step_fits}
 use Rattle.reach.proofs.Steps.{fits_is, is_fit}
 use Rattle.even.specs.Even.{Given, F, step_deviation, target_step, Usable}
 use Rattle.even.specs.Table.{step_within}
-use Rattle.even.specs.Steps.{least_step, most_step}
+use Rattle.even.specs.Steps.{least_step, most_step, span_of}
 
 -- and so it is as the library computes it
 ceil_is : (a g : ℕ) → 0 < g → div_ceil a g ≡ (a + (g - 1)) / g
@@ -41,7 +41,7 @@ module _ (x : Given) (u : Usable x) (k p : ℕ) (l : suc p < length x.targets) w
 
   -- the test on a step, by its least and its largest luminance
   pub step_fits_lem : (d e : ℕ) → e < length x.curve
-      → step_within x k p d e ≡ step_fits x.curve (least_step k (target_step x p)) (most_step k (target_step x p)) d e
+      → step_within x k p d e ≡ step_fits x.curve (span_of x k p) d e
   unfolding step_within
   step_fits_lem d e h =
       let up = u.curve_keeps.keeps d e in

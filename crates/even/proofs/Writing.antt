@@ -19,13 +19,13 @@ use Rattle.reach.specs.declared.Run.{Run}
 use Rattle.reach.specs.declared.Span.{Span}
 use Rattle.reach.specs.Rows.{RowThere, First, FindsFirst}
 use Rattle.reach.proofs.Steps.{Fits, fits_is, is_fit}
-use Rattle.reach.proofs.Rows.{IsLit, lit_is, is_lit}
+use Rattle.reach.proofs.Rows.{on_from, IsLit, lit_is, is_lit}
 use Rattle.even.specs.Even.{Given, F, target_step}
 use Rattle.even.specs.Paths.{next, lowest_path}
 use Rattle.even.specs.Table.{has_no_table, step_within, tables_within, good_at, feasible, even_table}
-use Rattle.even.specs.Runs.{brightest, run_from, run_to, run_of}
+use Rattle.even.specs.Runs.{brightest, run_from, run_of}
 use Rattle.even.specs.Filled.{Workable}
-use Rattle.even.specs.Steps.{least_step, most_step, span_of}
+use Rattle.even.specs.Steps.{least_step, span_of}
 use Rattle.even.specs.Filling.{LastLit, WriteAsks}
 use Rattle.even.proofs.Paths.{Path, path_from, path_good, lowest_path_lem, next_good, next_is}
 use Rattle.even.proofs.Runs.{reaching_top}
@@ -34,32 +34,32 @@ use Rattle.even.proofs.Steps.{step_fits_lem}
 
 -- ---- the first lit level that is bright enough
 
-module _ (curve words : List ℕ) (p from to start least : ℕ) where
+module _ (curve words : List ℕ) (run : Run) (start least : ℕ) where
   -- where a lit level from the start on is bright enough, the search finds one
-  some_found : (found : Option ℕ) → FindsFirst curve words (record { p = p; from = start; to = to }) least found → (e : ℕ) → IsLit words p from to e → start ≤ e → least ≤ get_or curve e 0
+  some_found : (found : Option ℕ) → FindsFirst curve words (on_from run start) least found → (e : ℕ) → IsLit words run e → start ≤ e → least ≤ get_or curve e 0
       → IsSome found
   some_found y1 h e lit a b = grind arith
 
   -- and that is what its number says
-  first_of : (found : Option ℕ) → FindsFirst curve words (record { p = p; from = start; to = to }) least found → {r : ℕ} → found ≡ Some r → First curve words p to start least r
+  first_of : (found : Option ℕ) → FindsFirst curve words (on_from run start) least found → {r : ℕ} → found ≡ Some r → First curve words (on_from run start) least r
   first_of y1 h e = grind arith
 
-  first_below : (found : Option ℕ) → FindsFirst curve words (record { p = p; from = start; to = to }) least found → {r : ℕ} → found ≡ Some r → r < to
+  first_below : (found : Option ℕ) → FindsFirst curve words (on_from run start) least found → {r : ℕ} → found ≡ Some r → r < run.to
   first_below y1 h e = grind arith
 
-module _ {curve words : List ℕ} {p from to start least r : ℕ} (first : First curve words p to start least r) where
-  module _ (e : ℕ) (h : IsLit words p from to e) (a : start ≤ e) (b : least ≤ get_or curve e 0) where
+module _ {curve words : List ℕ} {run : Run} {start least r : ℕ} (first : First curve words (on_from run start) least r) where
+  module _ (e : ℕ) (h : IsLit words run e) (a : start ≤ e) (b : least ≤ get_or curve e 0) where
     -- where one is, so is the first, and it is not above
     not_after : r ≤ e
     not_after = grind (arith, first.skipped e)
 
-    below_end : r < to
+    below_end : r < run.to
     below_end = omega (arith, not_after)
 
     bright : least ≤ get_or curve r 0
     bright = first.enough below_end
 
-    first_is_lit : from ≤ start → IsLit words p from to r
+    first_is_lit : run.from ≤ start → IsLit words run r
     first_is_lit l = grind (arith, below_end)
 
 module _ {x : Given} {k : ℕ} {words before : List ℕ} (ok : Workable x) (some : has_no_table x ≡ false) (asks : WriteAsks x k words before) where
@@ -68,23 +68,23 @@ module _ {x : Given} {k : ℕ} {words before : List ℕ} (ok : Workable x) (some
   some_within = rw asks.least (least_feasible x ok.usable (no_is some))
 
   -- the lit levels of p are the good ones
-  good_lit : (p d : ℕ) → p < length x.targets → d < length x.curve → T (good_at x k p d) → IsLit words p (run_from x p) (run_to x p) d
-  good_lit p d l h g = lit_is words p _ _ d (grind (arith, asks.rows.lit_good p d))
+  good_lit : (p d : ℕ) → p < length x.targets → d < length x.curve → T (good_at x k p d) → IsLit words (run_of x p) d
+  good_lit p d l h g = lit_is words (run_of x p) d (grind (arith, asks.rows.lit_good p d))
 
-  lit_good : (p d : ℕ) → p < length x.targets → d < length x.curve → IsLit words p (run_from x p) (run_to x p) d → T (good_at x k p d)
-  lit_good p d l h e = grind (arith, asks.rows.lit_good p d, is_lit words p _ _ d e)
+  lit_good : (p d : ℕ) → p < length x.targets → d < length x.curve → IsLit words (run_of x p) d → T (good_at x k p d)
+  lit_good p d l h e = grind (arith, asks.rows.lit_good p d, is_lit words (run_of x p) d e)
 
   -- ---- the first level
 
-  lowest_good : IsLit words 0 (run_from x 0) (run_to x 0) (lowest (good_at x k 0) (length x.curve))
+  lowest_good : IsLit words (run_of x 0) (lowest (good_at x k 0) (length x.curve))
   unfolding feasible
   lowest_good =
       good_lit 0 _ ok.usable.some_target (lowest_under (good_at x k 0) _ some_within) (lowest_passes (good_at x k 0) _ some_within)
 
   pub level_some : (found : Option ℕ) → FindsFirst x.curve words (run_of x 0) 0 found → IsSome found
-  level_some found h = some_found x.curve words 0 (run_from x 0) (run_to x 0) (run_from x 0) 0 found h _ lowest_good lowest_good.low zero-le
+  level_some found h = some_found x.curve words (run_of x 0) (run_from x 0) 0 found h _ lowest_good lowest_good.low zero-le
 
-  pub level_first : {r : ℕ} → First x.curve words 0 (run_to x 0) (run_from x 0) 0 r → r ≡ lowest_path (tables_within x k) 0
+  pub level_first : {r : ℕ} → First x.curve words (run_of x 0) 0 r → r ≡ lowest_path (tables_within x k) 0
   unfolding lowest_path feasible
   level_first {r} first =
       let e = lowest (good_at x k 0) (length x.curve) in
@@ -101,7 +101,7 @@ module _ {x : Given} {k : ℕ} {words before : List ℕ} (ok : Workable x) (some
   module _ (p d : ℕ) (l : suc p < length x.targets) (g : T (good_at x k p d)) where
     -- a step of the table, by the least and the largest luminance that it may reach
     abbrev Step : (e : ℕ) → Type 0
-    Step e = Fits x.curve (least_step k (target_step x p)) (most_step k (target_step x p)) d e
+    Step e = Fits x.curve (span_of x k p) d e
 
     step_is : (e : ℕ) → e < length x.curve → T (step_within x k p d e) → Step e
     step_is e h s = fits_is (subst T (step_fits_lem x ok.usable k p l d e h) s)
@@ -113,7 +113,7 @@ module _ {x : Given} {k : ℕ} {words before : List ℕ} (ok : Workable x) (some
     follower : ℕ
     follower = next (tables_within x k) p d
 
-    follower_good : IsLit words (suc p) (run_from x (suc p)) (run_to x (suc p)) follower
+    follower_good : IsLit words (run_of x (suc p)) follower
     unfolding follower
     follower_good =
         let after = next_good (tables_within x k) p d (omega arith) g in
@@ -127,12 +127,12 @@ module _ {x : Given} {k : ℕ} {words before : List ℕ} (ok : Workable x) (some
 
     -- it is bright enough for a search that asks no more than the step to it
     pub next_some : (low : ℕ) → low ≤ F x d + least_step k (target_step x p) → (found : Option ℕ)
-        → FindsFirst x.curve words (record { p = suc p; from = max d (run_from x (suc p)); to = run_to x (suc p) }) low found → IsSome found
+        → FindsFirst x.curve words (on_from (run_of x (suc p)) (max d (run_from x (suc p)))) low found → IsSome found
     next_some low small found h =
-        some_found x.curve words (suc p) (run_from x (suc p)) (run_to x (suc p)) _ low found h follower follower_good
+        some_found x.curve words (run_of x (suc p)) _ low found h follower follower_good
         (omega (arith, follower_step.low, follower_good.low)) (le_trans small follower_step.enough)
 
-    pub level_next : {r : ℕ} → First x.curve words (suc p) (run_to x (suc p)) (max d (run_from x (suc p))) (F x d + least_step k (target_step x p)) r
+    pub level_next : {r : ℕ} → First x.curve words (on_from (run_of x (suc p)) (max d (run_from x (suc p)))) (F x d + least_step k (target_step x p)) r
         → r ≡ next (tables_within x k) p d
     unfolding follower
     level_next {r} first =
@@ -185,7 +185,7 @@ module _ {x : Given} {k : ℕ} {words before : List ℕ} (ok : Workable x) (some
 
     module _ {d : ℕ} (is : found ≡ Some d) where
       start_is : d ≡ lowest_path (tables_within x k) 0
-      start_is = level_first ok some asks (first_of x.curve words 0 (run_from x 0) (run_to x 0) (run_from x 0) 0 found start_found is)
+      start_is = level_first ok some asks (first_of x.curve words (run_of x 0) (run_from x 0) 0 found start_found is)
 
       pub start_fits : d < 65536
       start_fits = omega (arith, start_is, path_small 0 ok.usable.some_target, ok.levels)
@@ -211,22 +211,22 @@ module _ {x : Given} {k : ℕ} {words before : List ℕ} (ok : Workable x) (some
 
       -- a search that asks no more than the step finds a level
       module _ (low : ℕ) (small : low ≤ F x d + span.least) (found : Option ℕ)
-          (h : FindsFirst x.curve words (record { p = run.p; from = max d run.from; to = run.to }) low found) where
+          (h : FindsFirst x.curve words (on_from run (max d run.from)) low found) where
         pub after_some : IsSome found
         after_some = next_some ok some asks p d (omega arith) good_here low (rw span_is at small) found (rw (add-one p) at (rw run_is at h))
 
         pub after_fits : {e : ℕ} → found ≡ Some e → e < 65536
-        after_fits {e} is = omega (arith, first_below x.curve words run.p (run_from x (p + 1)) _ _ low found h is, run_ends x (p + 1) run_is, ok.levels)
+        after_fits {e} is = omega (arith, first_below x.curve words run _ low found h is, run_ends x (p + 1) run_is, ok.levels)
 
       module _ (found : Option ℕ)
-          (h : FindsFirst x.curve words (record { p = run.p; from = max d run.from; to = run.to }) (F x d + span.least) found) where
-        as_defined : FindsFirst x.curve words (record { p = suc p; from = max d (run_from x (suc p)); to = run_to x (suc p) }) (F x d + least_step k (target_step x p)) found
+          (h : FindsFirst x.curve words (on_from run (max d run.from)) (F x d + span.least) found) where
+        as_defined : FindsFirst x.curve words (on_from (run_of x (suc p)) (max d (run_from x (suc p)))) (F x d + least_step k (target_step x p)) found
         as_defined = rw (run_is, span_is, add-one p) at h
 
         module _ {e : ℕ} (is : found ≡ Some e) where
           after_is : e ≡ lowest_path (tables_within x k) (p + 1)
           unfolding lowest_path
-          after_is = grind (arith, level_next ok some asks p d (omega arith) good_here (first_of x.curve words (suc p) (run_from x (suc p)) (run_to x (suc p)) _ _ found as_defined is))
+          after_is = grind (arith, level_next ok some asks p d (omega arith) good_here (first_of x.curve words (run_of x (suc p)) _ _ found as_defined is))
 
           pub writing_more : Writing x k before (set after (p + 1) e) (p + 1) e
           writing_more = record {

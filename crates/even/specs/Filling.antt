@@ -3,7 +3,7 @@ use Rattle.std.specs.Prelude.{ℕ, ◌-◌, ◌*◌, ◌≤◌, ◌<◌, ◌≡�
 use Rattle.reach.specs.Rows.{lit}
 use Rattle.even.specs.Even.{Given, worst_step}
 use Rattle.even.specs.Table.{allowed_at, has_no_table, good_at, feasible, lowest_levels, least_worst, even_table}
-use Rattle.even.specs.Runs.{run_from, run_to, AreRuns}
+use Rattle.even.specs.Runs.{run_of, AreRuns}
 use Rattle.even.specs.Filled.{KeptFrom}
 
 -- what finding the runs asks: a place for each end
@@ -22,7 +22,7 @@ pub record RunsFound (x : Given) (starts ends : List ℕ) (bound : Option ℕ) :
 
 -- level d of the row of p is lit
 abbrev pub lit_at : Given → (words : List ℕ) (p d : ℕ) → Bool
-lit_at x words p d = lit words p (run_from x p) (run_to x p) d
+lit_at x words p d = lit words (run_of x p) d
 
 -- from the row of p on, the levels lit are those from which an allowed table goes on with no step deviation above k
 pub record RowsGood (x : Given) (words : List ℕ) (k p : ℕ) : Type 0 where

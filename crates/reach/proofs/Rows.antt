@@ -9,27 +9,35 @@ use native.Mathlib.Omega.{arith}
 use lib.Dec.{eqb}
 use lib.ListN.{get_or, set, length-set}
 use lib.Seq.{get_or-set_other}
+use Rattle.reach.specs.declared.Run.{Run}
 use Rattle.reach.specs.Bits.{digit, bit_at, marked}
 use Rattle.reach.specs.Rows.{lit, RowKept}
 use Rattle.reach.proofs.Bits.{bit_same, place_bit}
 
--- what a lit level tells
-pub record IsLit (words : List ℕ) (p from to d : ℕ) : Type 0 where
-  pub low : from ≤ d
-  pub high : d < to
-  pub bit : bit_at words (p * 1024 + d) ≡ true
+-- the levels of a run below n, and those from n on
+abbrev pub up_to : Run → (n : ℕ) → Run
+up_to run n = record { p = run.p; from = run.from; to = n }
 
-module _ (words : List ℕ) (p from to d : ℕ) where
-  pub lit_is : lit words p from to d ≡ true → IsLit words p from to d
+abbrev pub on_from : Run → (n : ℕ) → Run
+on_from run n = record { p = run.p; from = n; to = run.to }
+
+-- what a lit level tells
+pub record IsLit (words : List ℕ) (run : Run) (d : ℕ) : Type 0 where
+  pub low : run.from ≤ d
+  pub high : d < run.to
+  pub bit : bit_at words (run.p * 1024 + d) ≡ true
+
+module _ (words : List ℕ) (run : Run) (d : ℕ) where
+  pub lit_is : lit words run d ≡ true → IsLit words run d
   unfolding lit
   lit_is e = grind arith
 
-  pub is_lit : IsLit words p from to d → lit words p from to d ≡ true
+  pub is_lit : IsLit words run d → lit words run d ≡ true
   unfolding lit
   is_lit h = grind arith
 
   -- it is lit in a run that starts elsewhere too
-  pub lit_moved : lit words p from to d ≡ true → (other : ℕ) → other ≤ d → lit words p other to d ≡ true
+  pub lit_moved : lit words run d ≡ true → (other : ℕ) → other ≤ d → lit words (on_from run other) d ≡ true
   unfolding lit
   lit_moved e other l = grind arith
 
@@ -38,18 +46,18 @@ module _ (words : List ℕ) (p from to d : ℕ) where
 pub row_bit : (words : List ℕ) (p d : ℕ) → bit_at words (p * 1024 + d) ≡ eqb (digit (get_or words (p * 32 + d / 32) 0) (d % 32)) 1
 row_bit words p d = grind (arith, place_bit words (p * 32) d)
 
--- where two lists of words agree on row q, its lit levels are the same
-pub lit_same : (a b : List ℕ) (q from to d : ℕ) → d < 1024 → ((i : ℕ) → q * 32 ≤ i → i < q * 32 + 32 → get_or a i 0 ≡ get_or b i 0)
-    → lit a q from to d ≡ lit b q from to d
+-- where two lists of words agree on a row, its lit levels are the same
+pub lit_same : (a b : List ℕ) (run : Run) (d : ℕ) → d < 1024 → ((i : ℕ) → run.p * 32 ≤ i → i < run.p * 32 + 32 → get_or a i 0 ≡ get_or b i 0)
+    → lit a run d ≡ lit b run d
 unfolding lit
-lit_same a b q from to d l e = grind (arith, bit_same a b (q * 1024 + d), e ((q * 1024 + d) / 32))
+lit_same a b run d l e = grind (arith, bit_same a b (run.p * 1024 + d), e ((run.p * 1024 + d) / 32))
 
 module _ {before after : List ℕ} {p : ℕ} (kept : RowKept before after p) (q : ℕ) (other : (q < p) ⊎ (p < q)) where
   pub bit_kept : (d : ℕ) → d < 1024 → bit_at after (q * 1024 + d) ≡ bit_at before (q * 1024 + d)
   bit_kept d l = bit_same after before (q * 1024 + d) (grind (arith, kept.words ((q * 1024 + d) / 32)))
 
   -- where the run ends in its row, at any d
-  pub row_kept : (from to : ℕ) → to ≤ 1024 → lit after q from to ≡ lit before q from to
+  pub row_kept : (from to : ℕ) → to ≤ 1024 → lit after (record { p = q; from = from; to = to }) ≡ lit before (record { p = q; from = from; to = to })
   unfolding lit
   row_kept from to l = fun_ext (λ d. grind (arith, bit_kept d))
 

@@ -7,17 +7,17 @@ use Rattle.reach.specs.declared.Run.{Run}
 use Rattle.reach.specs.declared.Span.{Span}
 use Rattle.reach.specs.Bits.{bit_at}
 
--- level d of the row of p is lit: it lies in the row's run and its bit is set
-unfoldable pub lit : (words : List ℕ) (p from to d : ℕ) → Bool
-lit words p from to d = leb from d && (ltb d to && bit_at words (p * 1024 + d))
+-- level d of a row is lit: it lies in the row's run and its bit is set
+unfoldable pub lit : (words : List ℕ) (run : Run) (d : ℕ) → Bool
+lit words run d = leb run.from d && (ltb d run.to && bit_at words (run.p * 1024 + d))
 
--- from level d to level q of the next row: q is not below d, and its luminance is higher by `least` to `most`
-unfoldable pub step_fits : (curve : List ℕ) (least most d q : ℕ) → Bool
-step_fits curve least most d q = leb d q && (leb (get_or curve d 0 + least) (get_or curve q 0) && leb (get_or curve q 0) (get_or curve d 0 + most))
+-- from level d to level q of the next row: q is not below d, and its luminance is higher by what the span allows
+unfoldable pub step_fits : (curve : List ℕ) (span : Span) (d q : ℕ) → Bool
+step_fits curve span d q = leb d q && (leb (get_or curve d 0 + span.least) (get_or curve q 0) && leb (get_or curve q 0) (get_or curve d 0 + span.most))
 
 -- the step to some lit level of the next row fits
-unfoldable pub reaches : (curve : List ℕ) (next : ℕ → Bool) (least most d : ℕ) → Bool
-reaches curve next least most d = any (λ q. next q && step_fits curve least most d q) (length curve)
+unfoldable pub reaches : (curve : List ℕ) (next : ℕ → Bool) (span : Span) (d : ℕ) → Bool
+reaches curve next span d = any (λ q. next q && step_fits curve span d q) (length curve)
 
 -- words other than those of row p are as before
 pub record RowKept (before after : List ℕ) (p : ℕ) : Type 0 where
@@ -33,21 +33,20 @@ pub record RowThere (words : List ℕ) (run : Run) : Type 0 where
 -- every level of the run is lit
 pub record RunLit (before after : List ℕ) (run : Run) : Type 0 where
   pub kept : RowKept before after run.p
-  pub here : (d : ℕ) → lit after run.p run.from run.to d ≡ (leb run.from d && ltb d run.to)
+  pub here : (d : ℕ) → lit after run d ≡ (leb run.from d && ltb d run.to)
 
--- r is the first level, from `from` to `to` − 1, with its bit set in row p and a luminance of at least `least`;
--- where there is none, it is the larger of `from` and `to`
-pub record First (curve words : List ℕ) (p to from least r : ℕ) : Type 0 where
-  pub after : from ≤ r
-  pub within : r ≤ max from to
-  pub skipped : (q : ℕ) → from ≤ q → q < r → bit_at words (p * 1024 + q) ≡ true → get_or curve q 0 < least
-  pub set : r < to → bit_at words (p * 1024 + r) ≡ true
-  pub enough : r < to → least ≤ get_or curve r 0
+-- r is the first level of a run with its bit set and a luminance of at least `least`; where there is none, it is the larger of the run's ends
+pub record First (curve words : List ℕ) (run : Run) (least r : ℕ) : Type 0 where
+  pub after : run.from ≤ r
+  pub within : r ≤ max run.from run.to
+  pub skipped : (q : ℕ) → run.from ≤ q → q < r → bit_at words (run.p * 1024 + q) ≡ true → get_or curve q 0 < least
+  pub set : r < run.to → bit_at words (run.p * 1024 + r) ≡ true
+  pub enough : r < run.to → least ≤ get_or curve r 0
 
 -- what a search of the levels of a run finds: that level, below its end, or that there is none
 abbrev pub FindsFirst : (curve words : List ℕ) (run : Run) (least : ℕ) → Option ℕ → Type 0
-FindsFirst curve words run least (Some r) = (r < run.to) × First curve words run.p run.to run.from least r
-FindsFirst curve words run least None = First curve words run.p run.to run.from least (max run.from run.to)
+FindsFirst curve words run least (Some r) = (r < run.to) × First curve words run least r
+FindsFirst curve words run least None = First curve words run least (max run.from run.to)
 
 -- what filling a row from the next one asks
 pub record RowAsks (curve words : List ℕ) (run next : Run) (span : Span) : Type 0 where
@@ -65,5 +64,5 @@ pub record RowAsks (curve words : List ℕ) (run next : Run) (span : Span) : Typ
 pub record RowFilled (curve before after : List ℕ) (run next : Run) (span : Span) (some : Bool) : Type 0 where
   pub kept : RowKept before after run.p
   pub here : (d : ℕ) → d < length curve
-      → lit after run.p run.from run.to d ≡ (leb run.from d && (ltb d run.to && reaches curve (lit before next.p next.from next.to) span.least span.most d))
-  pub found : some ≡ any (lit after run.p run.from run.to) (length curve)
+      → lit after run d ≡ (leb run.from d && (ltb d run.to && reaches curve (lit before next) span d))
+  pub found : some ≡ any (lit after run) (length curve)

@@ -22,6 +22,6 @@ level_of d k = d / 32 * 32 + k
 -- The search for the levels after them goes on at word.q
 pub record WordFilled (curve words : List ℕ) (run next : Run) (span : Span) (word : Word) : Type 0 where
   pub here : (k : ℕ) → eqb (digit word.bits k) 1
-      ≡ (leb run.from (level_of run.from k) && (ltb (level_of run.from k) run.to && reaches curve (lit words next.p next.from next.to) span.least span.most (level_of run.from k)))
+      ≡ (leb run.from (level_of run.from k) && (ltb (level_of run.from k) run.to && reaches curve (lit words next) span (level_of run.from k)))
   pub after : next.from ≤ word.q
-  pub skipped : Skipped curve (lit words next.p next.from next.to) span.least (max run.from run.to) word.q
+  pub skipped : Skipped curve (lit words next) span.least (max run.from run.to) word.q
