@@ -1,4 +1,4 @@
--- The even table from its parts: the last row, the least worst step, the entries.
+-- The last row, lit before the others are filled.
 -- Assumes nothing.
 use Prim.Native.Nat.{ℕ, ◌-◌, ◌+◌}
 use mathlib.Core.Path.{◌≡◌}

@@ -66,7 +66,7 @@ pub fn first_lit(curve: &[u32], words: &[u32], run: Run, least: u64) -> Option<u
 
 // Finds the bits of one word of a row, from the next row: those of the levels of `run`, which lie in one word.
 // The curve never falls, so the first level of `next` that is bright enough for each level never falls either.
-// Not a struct: `fill_row` writes the words that are only read here, and without them it would be no plainer.
+// Not a method of a struct that holds the words: what writes them would say too that it keeps their reference, and take no less.
 fn fill_word(curve: &[u32], words: &[u32], run: Run, next: Run, span: Span) -> Word
     requires { RowAsks curve.now words.now run next span × InWord run }
     ensures { WordFilled curve.now words.now run next span result }
