@@ -1,6 +1,6 @@
 -- The rows of lit levels: a row filled from the next one holds the levels from which an allowed table goes on.
 -- Assumes nothing.
-use Prim.Native.Nat.{ℕ, suc, ◌-◌, ◌≤◌, ◌<◌, zero-le}
+use Prim.Native.Nat.{ℕ, suc, ◌+◌, ◌-◌, ◌*◌, ◌≤◌, ◌<◌, zero-le}
 use mathlib.Core.Path.{◌≡◌, refl, ap, ap₂, ◌∙◌}
 use mathlib.Core.Logic.{inr}
 use mathlib.Core.Bool.{Bool, false, ◌&&◌, and_assoc, and_comm}
@@ -10,16 +10,17 @@ use lib.Dec.{T, leb, ltb}
 use lib.ListN.{length}
 use Rattle.laws.specs.Search.{any}
 use Rattle.laws.proofs.Search.{any_intro, any_same}
-use Rattle.reach.specs.Rows.{reaches, RowKept, RowFilled}
+use Rattle.reach.specs.declared.Run.{Run}
+use Rattle.reach.specs.Rows.{reaches, RowKept, RowThere, RunLit, RowFilled}
 use Rattle.reach.proofs.Rows.{lit_same}
 use Rattle.even.specs.Even.{Given}
 use Rattle.even.specs.Table.{tables_within, good_at, feasible}
-use Rattle.even.specs.Runs.{run_from, run_to, run_of}
+use Rattle.even.specs.Runs.{brightest, run_from, run_to, run_of}
 use Rattle.even.specs.Steps.{span_of}
 use Rattle.even.specs.Filled.{Workable, KeptFrom}
 use Rattle.even.specs.Filling.{lit_at, RowsGood, LastLit}
 use Rattle.even.proofs.Paths.{good_step, good_last, lowest_path_lem, path_from, path_good}
-use Rattle.even.proofs.Runs.{allowed_run}
+use Rattle.even.proofs.Runs.{reaching_top, allowed_run}
 use Rattle.even.proofs.Steps.{step_fits_lem}
 
 -- ---- words that are kept
@@ -42,6 +43,15 @@ module _ {x : Given} (ok : Workable x) where
   last_kept k h = grind (arith, lit_kept k (length x.targets - 1), h.lit_last)
 
   -- ---- the last row
+
+  module _ {words : List ℕ} (fit : 32 * length x.targets ≤ length words) {run : Run} (run_is : run ≡ run_of x (length x.targets - 1)) where
+    pub last_there : RowThere words run
+    last_there = grind (arith, reaching_top x.curve (brightest x (length x.targets - 1) + 1))
+
+    pub last_lit : {after : List ℕ} → RunLit words after run → LastLit x after
+    last_lit {after} h =
+        let lit : RunLit words after (run_of x (length x.targets - 1)) = rw run_is at h in
+        grind (arith, lit, allowed_run x ok.usable (length x.targets - 1))
 
   pub last_good : {words : List ℕ} (k : ℕ) → LastLit x words → RowsGood x words k (length x.targets - 1)
   last_good {words} k h = grind (arith, good_last (tables_within x k))

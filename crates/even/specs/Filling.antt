@@ -1,8 +1,8 @@
 -- What the parts of the even table's code ask and leave.
-use Rattle.std.specs.Prelude.{ℕ, ◌-◌, ◌*◌, ◌≤◌, ◌<◌, ◌≡◌, Bool, true, false, cond, List, ◌++◌, Option, Some, None, length, drop}
+use Rattle.std.specs.Prelude.{ℕ, ◌-◌, ◌*◌, ◌≤◌, ◌<◌, ◌≡◌, Bool, true, false, cond, List, Option, Some, None, length}
 use Rattle.reach.specs.Rows.{lit}
 use Rattle.even.specs.Even.{Given, worst_step}
-use Rattle.even.specs.Table.{allowed_at, has_no_table, good_at, feasible, lowest_levels, least_worst, even_table}
+use Rattle.even.specs.Table.{allowed_at, has_no_table, good_at, feasible, lowest_levels, least_worst}
 use Rattle.even.specs.Runs.{run_of, AreRuns}
 use Rattle.even.specs.Filled.{KeptFrom}
 
@@ -50,15 +50,3 @@ pub record WriteAsks (x : Given) (k : ℕ) (words before : List ℕ) : Type 0 wh
   pub least : k ≡ least_worst x
   pub rows : RowsGood x words k 0
   pub fits : length x.targets ≤ length before
-
--- what making it asks: room, and the bound that the lowest levels give
-pub record MakeAsks (x : Given) (bound : ℕ) (before words : List ℕ) : Type 0 where
-  pub entries_fit : length x.targets ≤ length before
-  pub rows_fit : 32 * length x.targets ≤ length words
-  pub bound_is : bound ≡ worst_step x (lowest_levels x)
-
--- the table written, and the words after the rows as before
-pub record Made (x : Given) (before after words words_after : List ℕ) (worst : ℕ) : Type 0 where
-  pub worst_is : worst ≡ least_worst x
-  pub table : after ≡ even_table x ++ drop (length x.targets) before
-  pub later_words : KeptFrom (length x.targets) words words_after

@@ -176,14 +176,17 @@ impl Problem<'_> {
             starts,
             ends,
         };
-        Some(found.make_table(bound, table, work))
+        reach::light_run(work, found.run_at(self.targets.len() - 1));
+        let mut rows = LitRows { found, words: work };
+        let worst = rows.least_worst(bound);
+        rows.write_table(worst, table);
+        Some(worst)
     }
 }
 
 impl Found<'_> {
     ghost use Rattle.even.specs.Problems.{given_of};
     ghost use Rattle.even.specs.Runs.{run_of};
-    ghost use Rattle.even.specs.Filling.{MakeAsks, Made};
 
     // The run of P-value p.
     fn run_at(&self, p: usize) -> Run
@@ -195,22 +198,6 @@ impl Found<'_> {
             from: usize::from(self.starts[p]),
             to: usize::from(self.ends[p]),
         }
-    }
-
-    // Fills the front of the table with the even table; its worst step.
-    fn make_table(&self, bound: u64, table: &mut [u16], work: &mut [u32]) -> u64
-        requires { MakeAsks (given_of self.now.problem) bound table.old work.old }
-        ensures { Made (given_of self.now.problem) table.old table.new work.old work.new result }
-    {
-        let last = self.problem.targets.len() - 1;
-        reach::light_run(work, self.run_at(last));
-        let mut rows = LitRows {
-            found: *self,
-            words: work,
-        };
-        let worst = rows.least_worst(bound);
-        rows.write_table(worst, table);
-        worst
     }
 }
 
