@@ -11,9 +11,9 @@ use Rattle.std.specs.Prelude.{Option, Some, None, Result, Ok, Err}
 use Rattle.record.specs.Sections.{after, sections, check_in}
 use Rattle.record.specs.declared.Refusal.{Refusal}
 use Rattle.record.specs.declared.Refusal.TheVariants.{LentTooShort}
-use Rattle.record.specs.Reader.{values}
+use Rattle.record.specs.Reader.{longs}
 use Rattle.record.proofs.Accepted.{accepted_job}
-use Rattle.record.proofs.Fields.{fields_length}
+use Rattle.std.proofs.lemmas.List.{length-map}
 use Rattle.contrast.specs.Check.{shown, Checked, limit_of}
 use Rattle.contrast.specs.declared.Limit.{Limit}
 use Rattle.contrast.specs.declared.Verdict.{Verdict}
@@ -26,10 +26,10 @@ use Rattle.engine.proofs.Reading.{sound}
 use Rattle.engine.proofs.CheckOutcomes.{promised}
 
 -- where some readings of the check are read, all 18 are
-pub all_read : {bytes : List ℕ} {tested : TestedJob} → PassedTests bytes tested → (tested.found.check.count ≡ 0 → ⊥) → tested.found.check.count ≡ 18
+pub all_read : {bytes : List ℕ} {tested : TestedJob} → PassedTests bytes tested → (length tested.found.check.raw.now ≡ 0 → ⊥) → length tested.found.check.raw.now ≡ 18
 all_read {bytes = bytes} {tested = tested} p some =
     let a = (accepted_job bytes tested.job p.accepted).patches in
-    let e : length (check_in (sections bytes)) ≡ tested.found.check.count = rw (← p.read.lists, fields_length) in
+    let e : length (check_in (sections bytes)) ≡ length tested.found.check.raw.now = rw (← p.read.lists, length-map) in
     grind arith
 
 module _ (bytes : List ℕ) (before : List ℤ) where
@@ -49,21 +49,21 @@ module _ (bytes : List ℕ) (before : List ℤ) where
 
     -- by what passed tests 2 to 10
     module _ {tested : TestedJob} (p : PassedTests bytes tested) where
-      pub check_none : tested.found.check.count ≡ 0 → CheckPromise bytes before before (Ok None)
+      pub check_none : length tested.found.check.raw.now ≡ 0 → CheckPromise bytes before before (Ok None)
       unfolding check_of places_of
       check_none z =
-          let n : length (check_in (sections bytes)) ≡ 0 = rw (← p.read.lists, fields_length) z in
+          let n : length (check_in (sections bytes)) ≡ 0 = rw (← p.read.lists, length-map) z in
           ended (sound p) (rw n refl) (rw n refl)
 
       -- its readings fill an array of 18
       pub check_made : (array : List ℕ) {readings : List ℕ} {limit : Limit} {found : Result Verdict Refusal} {answer : Result (Option Verdict) Refusal} {places : List ℤ}
-          → (tested.found.check.count ≡ 0 → ⊥) → length array ≡ 18 → readings ≡ values tested.found.check ++ drop tested.found.check.count array → limit ≡ limit_of tested.job.settings.class → Checked limit (shown tested.light.added.0 readings) found before places
+          → (length tested.found.check.raw.now ≡ 0 → ⊥) → length array ≡ 18 → readings ≡ longs tested.found.check ++ drop (length tested.found.check.raw.now) array → limit ≡ limit_of tested.job.settings.class → Checked limit (shown tested.light.added.0 readings) found before places
           → answer ≡ after found (λ verdict. Ok (Some verdict)) → CheckPromise bytes before places answer
       unfolding check_of places_of
       check_made array {readings = readings} {limit = limit} {found = found} {places = places} some m f l h a =
           let all = all_read p some in
-          let n : length (check_in (sections bytes)) ≡ 18 = rw (← p.read.lists, fields_length) all in
-          let e : readings ≡ values tested.found.check = f ∙ rw (drop_of_length-le array {i = tested.found.check.count} (omega (arith, all, m)), append-nil) in
+          let n : length (check_in (sections bytes)) ≡ 18 = rw (← p.read.lists, length-map) all in
+          let e : readings ≡ longs tested.found.check = f ∙ rw (drop_of_length-le array {i = length tested.found.check.raw.now} (omega (arith, all, m)), append-nil) in
           let lit = subst (λ (x : Light). Checked limit (shown x.added.0 readings) found before places) p.light h in
           let limited = subst (λ (x : Limit). Checked x (shown (added_of tested.job) readings) found before places) l lit in
           let own = subst (λ (xs : List ℕ). Checked (limit_of tested.job.settings.class) (shown (added_of tested.job) xs) found before places) (e ∙ ap check_in p.read.lists) limited in

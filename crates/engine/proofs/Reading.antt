@@ -5,7 +5,7 @@ use mathlib.Core.List.{List}
 use Prim.Native.Nat.{ℕ, ◌+◌, ◌-◌, ◌≤◌, ◌<◌}
 use native.Mathlib.Numerals.{add-one}
 use native.Mathlib.Omega.{arith}
-use lib.ListN.{get_or}
+use lib.ListN.{length, get_or}
 use mir.Facts.{and_yes, leb_yes}
 use Rattle.std.specs.Prelude.{Result, Ok, Err}
 use Rattle.laws.proofs.Rises.{keeps_by_steps}
@@ -16,7 +16,7 @@ use Rattle.record.specs.declared.Job.{Job}
 use Rattle.record.specs.declared.items.JobRecord.{JobRecord}
 use Rattle.record.specs.declared.items.Reading.{Reading}
 use Rattle.record.proofs.Accepted.{accepted_job}
-use Rattle.record.proofs.Fields.{fields_length}
+use Rattle.std.proofs.lemmas.List.{length-map}
 use Rattle.record.proofs.Climbing.{ReadAt, luminance_at}
 use Rattle.units.specs.declared.Luminance.{Luminance}
 use Rattle.record.specs.Tests.{answer_of}
@@ -51,16 +51,16 @@ module _ {s : List ℕ} {r : JobRecord} (h : ReadFrom s (Ok r)) (job : Job) (e :
   is_accepted = sym h.answer ∙ e
 
   -- no reading is darker than the first
-  pub in_order : {first reading : Reading} (i : ℕ) → ReadAt r.sweep.count r.sweep.bytes.now 0 first → ReadAt r.sweep.count r.sweep.bytes.now i reading → i < r.sweep.count
+  pub in_order : {first reading : Reading} (i : ℕ) → ReadAt r.sweep.raw.now 0 first → ReadAt r.sweep.raw.now i reading → i < length r.sweep.raw.now
       → first.luminance.0 ≤ reading.luminance.0
   in_order i f g l =
-      rw (luminance_at r.sweep.count r.sweep.bytes.now 0 (omega arith) f 0, luminance_at r.sweep.count r.sweep.bytes.now i l g 0) (rw (← h.lists) at ((measurable s is_accepted).sweep.keep.keeps 0 i (omega arith) (rw (← h.lists, fields_length) l)))
+      rw (luminance_at r.sweep.raw.now 0 (omega arith) f 0, luminance_at r.sweep.raw.now i l g 0) (rw (← h.lists) at ((measurable s is_accepted).sweep.keep.keeps 0 i (omega arith) (rw (← h.lists, length-map) l)))
 
   -- by the first and the last reading, the light that is worked out from the job, and what tests 8, 9 and 10 find
-  module _ {first last : Luminance} {n : ℕ} (en : n ≡ r.sweep.count) (f : first.0 ≡ get_or (luminances_of r.sweep) 0 0) (l : last.0 ≡ get_or (luminances_of r.sweep) (n - 1) 0)
+  module _ {first last : Luminance} {n : ℕ} (en : n ≡ length r.sweep.raw.now) (f : first.0 ≡ get_or (luminances_of r.sweep) 0 0) (l : last.0 ≡ get_or (luminances_of r.sweep) (n - 1) 0)
       {light : Light} (k : light ≡ light_of job) {x : Result IndexRange Refusal} (t : x ≡ range_tests (light.added.0 + first.0) (light.added.0 + last.0)) where
     tests_are : sweep_tests (added_of job) (luminances_in (sections s)) ≡ x
-    tests_are = rw (← h.lists, fields_length) (sym (rw (k, f, l, en) at t))
+    tests_are = rw (← h.lists, length-map) (sym (rw (k, f, l, en) at t))
 
     pub sent_back : (q : Refusal) → x ≡ Err q → soundness s ≡ Err q
     unfolding soundness

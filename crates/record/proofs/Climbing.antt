@@ -1,33 +1,34 @@
 -- The sweep of a record: levels that rise and luminances that do not fall.
 -- Assumes nothing.
 use Rattle.std.specs.Prelude.{Option, Some, None, MatchOption, MatchBool, IfSome, is_none}
-use Prim.Native.Nat.{ℕ, zero, suc, ◌+◌, ◌-◌, ◌*◌, ◌≤◌, ◌<◌}
+use Prim.Native.Nat.{ℕ, zero, suc, ◌+◌, ◌-◌, ◌≤◌, ◌<◌}
 use mathlib.Core.Path.{◌≡◌, sym}
-use mathlib.Core.List.{List, [], ◌∷◌}
+use mathlib.Core.List.{List, [], ◌∷◌, map}
 use mathlib.Core.Bool.{Bool, true, false, ◌&&◌}
-use lib.ListN.{length, get_or, drop}
+use lib.ListN.{length, get_or}
 use native.Mathlib.Omega.{arith}
+use Rattle.std.proofs.lemmas.List.{length-map}
 use Rattle.std.proofs.lemmas.Bool.{false_from_ne_true}
 use Rattle.std.proofs.lemmas.Float.{T_from_true}
 use Rattle.laws.specs.Rises.{rises_from, rises_by}
 use Rattle.laws.proofs.Rises.{rises_at}
-use Rattle.record.specs.Bytes.{word, long, fields}
+use Rattle.record.specs.Bytes.{word, long}
 use Rattle.record.specs.Reader.{steps_up, LevelsRise}
 use Rattle.record.specs.declared.items.Reading.{Reading}
-use Rattle.record.proofs.Fields.{fields_length, field_at}
+use Rattle.record.proofs.Fields.{map_at}
 
 -- ---- readings, as they stand in a sweep of n items
 
-module _ (n : ℕ) (s : List ℕ) where
+module _ (xs : List (List ℕ)) where
   -- r is read at place i
   abbrev pub ReadAt : ℕ → Reading → Type 0
-  ReadAt i r = r ≡ record { ddl = record { 0 = word 0 (drop (i * 6) s) }; luminance = record { 0 = long 2 (drop (i * 6) s) } }
+  ReadAt i r = (d : List ℕ) → r ≡ record { ddl = record { 0 = word 0 (get_or xs i d) }; luminance = record { 0 = long 2 (get_or xs i d) } }
 
-  pub ddl_at : (i : ℕ) {r : Reading} → i < n → ReadAt i r → (x : ℕ) → r.ddl.0 ≡ get_or (fields 6 (word 0) n s) i x
-  ddl_at i h e x = rw (e, field_at 6 (word 0) n s i x h)
+  pub ddl_at : (i : ℕ) {r : Reading} → i < length xs → ReadAt i r → (x : ℕ) → r.ddl.0 ≡ get_or (map (word 0) xs) i x
+  ddl_at i h e x = rw (e [], map_at (word 0) xs i x h)
 
-  pub luminance_at : (i : ℕ) {r : Reading} → i < n → ReadAt i r → (x : ℕ) → r.luminance.0 ≡ get_or (fields 6 (long 2) n s) i x
-  luminance_at i h e x = rw (e, field_at 6 (long 2) n s i x h)
+  pub luminance_at : (i : ℕ) {r : Reading} → i < length xs → ReadAt i r → (x : ℕ) → r.luminance.0 ≡ get_or (map (long 2) xs) i x
+  luminance_at i h e x = rw (e [], map_at (long 2) xs i x h)
 
 -- ---- a list that rises, by its places
 
@@ -62,11 +63,11 @@ module _ (dd lu : List ℕ) {n : ℕ} (dds : length dd ≡ n) where
   rise_before (Some i) (a, b, c, up) = record { some = a; is = λ k l m. grind (arith, up k) }
 
 -- the level of reading k, as it is read
-abbrev pub level_at : List ℕ → ℕ → ℕ
-level_at s k = word 0 (drop (k * 6) s)
+abbrev pub level_at : List (List ℕ) → ℕ → ℕ
+level_at xs k = word 0 (get_or xs k [])
 
-pub rise_after : (n : ℕ) (s : List ℕ) {i : ℕ} → LevelsRise (fields 6 (word 0) n s) i → (r : Bool)
-    → MatchBool r ((k : ℕ) → i ≤ k → k < n → level_at s (k - 1) < level_at s k) ((k : ℕ) × (i ≤ k) × (k < n) × (level_at s k ≤ level_at s (k - 1)))
-    → r ≡ rises_by 1 (fields 6 (word 0) n s)
-rise_after n s h true up = sym (rises 1 _ (λ k a b. grind (arith, h.is k, up k, fields_length 6 (word 0) n s, field_at 6 (word 0) n s)))
-rise_after n s h false (k, a, b, c) = sym (rises_not 1 _ k (omega (arith, h.some)) (rw fields_length b) (grind (arith, h.some, field_at 6 (word 0) n s)))
+pub rise_after : (xs : List (List ℕ)) {i : ℕ} → LevelsRise (map (word 0) xs) i → (r : Bool)
+    → MatchBool r ((k : ℕ) → i ≤ k → k < length xs → level_at xs (k - 1) < level_at xs k) ((k : ℕ) × (i ≤ k) × (k < length xs) × (level_at xs k ≤ level_at xs (k - 1)))
+    → r ≡ rises_by 1 (map (word 0) xs)
+rise_after xs h true up = sym (rises 1 _ (λ k a b. grind (arith, h.is k, up k, length-map xs (word 0), map_at (word 0) xs)))
+rise_after xs h false (k, a, b, c) = sym (rises_not 1 _ k (omega (arith, h.some)) (rw length-map b) (grind (arith, h.some, map_at (word 0) xs)))

@@ -1,25 +1,27 @@
 -- What the readers of a record ask and promise.
-use Rattle.std.specs.Prelude.{ℕ, ◌+◌, ◌-◌, ◌≤◌, ◌<◌, List, Bool, ◌&&◌, ◌≡◌, T, get_or, leb, Result, Ok}
+use Rattle.std.specs.Prelude.{ℕ, map, length, ◌+◌, ◌-◌, ◌≤◌, ◌<◌, List, Bool, ◌&&◌, ◌≡◌, T, get_or, leb, Result, Ok}
 use Rattle.record.specs.Bytes.{word, long, fields}
-use Rattle.record.specs.Sections.{permitted, count_of, items, rest, after, Lists, sections}
+use Rattle.record.specs.Sections.{permitted, width, count_of, items, rest, after, Lists, sections}
 use Rattle.record.specs.Tests.{answer_of}
 use Rattle.record.specs.declared.Section.{Section}
 use Rattle.record.specs.declared.Refusal.{Refusal}
-use Rattle.record.specs.declared.items.Field.{Ghosts}
 use Rattle.record.specs.declared.items.Items.{Items}
 use Rattle.record.specs.declared.items.Reading.{Reading}
 use Rattle.record.specs.declared.items.JobRecord.{JobRecord}
 
--- what a view shows
-abbrev pub values : {A : Type 0} {field : Ghosts A} → Items A field → List A
-values {field = field} v = fields field.WIDTH field.value v.count v.bytes.now
+-- what a view of numbers of 16 bits shows, and one of 32
+abbrev pub words : Items ℕ (List ℕ) → List ℕ
+words v = map (word 0) v.raw.now
+
+abbrev pub longs : Items ℕ (List ℕ) → List ℕ
+longs v = map (long 0) v.raw.now
 
 -- the drive levels and the luminances of a sweep
-abbrev pub ddls_of : {field : Ghosts Reading} → Items Reading field → List ℕ
-ddls_of v = fields 6 (word 0) v.count v.bytes.now
+abbrev pub ddls_of : Items Reading (List ℕ) → List ℕ
+ddls_of v = map (word 0) v.raw.now
 
-abbrev pub luminances_of : {field : Ghosts Reading} → Items Reading field → List ℕ
-luminances_of v = fields 6 (long 2) v.count v.bytes.now
+abbrev pub luminances_of : Items Reading (List ℕ) → List ℕ
+luminances_of v = map (long 2) v.raw.now
 
 -- section k was taken off the front of s: its n items, and what follows it
 pub record Taken (k : Section) (s : List ℕ) (n : ℕ) (found more : List ℕ) : Type 0 where
@@ -27,6 +29,11 @@ pub record Taken (k : Section) (s : List ℕ) (n : ℕ) (found more : List ℕ) 
   pub may : T (permitted k n)
   pub items : found ≡ items k n s
   pub rest : more ≡ rest k n s
+
+-- and its items are found, as f reads each
+pub record TakenAs {A : Type 0} (f : List ℕ → A) (k : Section) (s : List ℕ) (found : List A) (more : List ℕ) : Type 0 where
+  pub taken : Taken k s (length found) (items k (length found) s) more
+  pub are : found ≡ fields (width k) f (length found) (items k (length found) s)
 
 -- reading i, counted from 0, has a higher level than the one before it, and no lower luminance; in the form of rises_from, with steps of 1 and 0
 abbrev pub steps_up : (ddls luminances : List ℕ) (i : ℕ) → Bool
@@ -40,11 +47,11 @@ pub record LevelsRise (ddls : List ℕ) (i : ℕ) : Type 0 where
 -- the five lists that a record shows, as they stand before test 5
 abbrev pub lists_of : JobRecord → Lists
 lists_of r = record {
-  settings = values r.settings;
-  lamps = values r.lamps;
+  settings = words r.settings;
+  lamps = words r.lamps;
   ddls = ddls_of r.sweep;
   luminances = luminances_of r.sweep;
-  check = values r.check;
+  check = longs r.check;
 }
 
 -- r is read from the bytes s: their lists and their answer

@@ -1,17 +1,18 @@
 // A record's sections, read where they lie in its bytes.
 
-ghost use Rattle.std.specs.Prelude.{◌≡◌, ◌*◌, ◌<◌, ◌≤◌, ◌++◌, ⊤, ℕ, List, length, drop, IfSome, Some};
+ghost use Rattle.std.specs.Prelude.{◌≡◌, ◌/◌, ◌<◌, ◌≤◌, ◌++◌, ℕ, List, length, get_or, drop, map, IfSome, Some};
 ghost use Rattle.std.specs.Iterator.{YieldsFirst, at_most, UpTo};
 ghost use Rattle.std.specs.Iterator.SizeHint.{IsWithinCount};
 ghost use Rattle.record.specs.Bytes.{word, long, fields};
 
 use crate::{Job, Refusal};
-use std::alloc::AllocError;
-use std::marker::PhantomData;
 use units::{Ddl, Luminance};
 
 // What an item holds.
 pub trait Field: Copy {
+    // An item, as it lies in a record.
+    type Raw;
+
     // In bytes.
     const WIDTH: usize;
 
@@ -20,32 +21,54 @@ pub trait Field: Copy {
     // The item at the front of some bytes.
     ghost value: { List ℕ → Self };
 
-    fn read(bytes: &[u8]) -> Self
-        requires { WIDTH ≤ length bytes.now }
-        ensures { result ≡ value bytes.now };
+    // The item that its bytes hold.
+    ghost held: { Self.Raw → Self };
+
+    fn read(raw: &Self::Raw) -> Self
+        ensures { result ≡ held raw.now };
+
+    // The items that some bytes hold.
+    fn split(bytes: &[u8]) -> &[Self::Raw]
+        ensures { map held result.now ≡ fields WIDTH value (length bytes.now / WIDTH) bytes.now };
 }
 
 impl Field for u16 {
+    type Raw = [u8; 2];
+
     const WIDTH: usize = 2;
 
     ghost WIDTH = { 2 };
 
     ghost value = { word 0 };
 
-    fn read(bytes: &[u8]) -> u16 {
-        u16::from_le_bytes([bytes[0], bytes[1]])
+    ghost held = { word 0 };
+
+    fn read(raw: &[u8; 2]) -> u16 {
+        u16::from_le_bytes(*raw)
+    }
+
+    fn split(bytes: &[u8]) -> &[[u8; 2]] {
+        bytes.as_chunks().0
     }
 }
 
 impl Field for u32 {
+    type Raw = [u8; 4];
+
     const WIDTH: usize = 4;
 
     ghost WIDTH = { 4 };
 
     ghost value = { long 0 };
 
-    fn read(bytes: &[u8]) -> u32 {
-        u32::from_le_bytes([bytes[0], bytes[1], bytes[2], bytes[3]])
+    ghost held = { long 0 };
+
+    fn read(raw: &[u8; 4]) -> u32 {
+        u32::from_le_bytes(*raw)
+    }
+
+    fn split(bytes: &[u8]) -> &[[u8; 4]] {
+        bytes.as_chunks().0
     }
 }
 
@@ -57,75 +80,61 @@ pub struct Reading {
 }
 
 impl Field for Reading {
+    type Raw = [u8; 6];
+
     const WIDTH: usize = 6;
 
     ghost WIDTH = { 6 };
 
     ghost value = { λ s. record { ddl = record { 0 = word 0 s }; luminance = record { 0 = long 2 s } } };
 
-    fn read(bytes: &[u8]) -> Reading {
+    ghost held = { λ s. record { ddl = record { 0 = word 0 s }; luminance = record { 0 = long 2 s } } };
+
+    fn read(raw: &[u8; 6]) -> Reading {
+        let [a, b, c, d, e, f] = *raw;
         Reading {
-            ddl: Ddl(u16::read(bytes)),
-            luminance: Luminance(u32::read(&bytes[2..])),
+            ddl: Ddl(u16::read(&[a, b])),
+            luminance: Luminance(u32::read(&[c, d, e, f])),
         }
+    }
+
+    fn split(bytes: &[u8]) -> &[[u8; 6]] {
+        bytes.as_chunks().0
     }
 }
 
 // The items of a section that are left, as an iterator over them and by their places.
+#[derive(Clone, Copy)]
 pub struct Items<'a, F: Field> {
-    bytes: &'a [u8],
-    // Kept beside the bytes: else it would be a quotient in each contract and in each step.
-    count: usize,
-    of: PhantomData<F>,
-    ghost whole: { length bytes.now ≡ count * F.WIDTH },
-}
-
-// By hand: neither derive nor derive_where takes a ghost field of a struct with a type parameter.
-impl<'a, F: Field> Copy for Items<'a, F> {}
-
-impl<'a, F: Field> Clone for Items<'a, F> {
-    ghost is_clone = { λ items copy. copy ≡ items };
-
-    ghost is_infallible = { λ _. ⊤ };
-
-    fn clone(&self) -> Result<Self, AllocError> {
-        Ok(*self)
-    }
+    raw: &'a [F::Raw],
 }
 
 impl<'a, F: Field> Items<'a, F> {
-    // `count` items that are all there.
-    pub(crate) fn new(bytes: &'a [u8], count: usize) -> Self
-        requires { length bytes.now ≡ count * F.WIDTH }
-        ensures all { result.count ≡ count }
-        ensures there { result.bytes.now ≡ bytes.now }
+    pub(crate) fn new(raw: &'a [F::Raw]) -> Self
+        ensures { result.raw.now ≡ raw.now }
     {
-        Items {
-            bytes,
-            count,
-            of: PhantomData,
-        }
+        Items { raw }
     }
 
     pub fn len(&self) -> usize
-        ensures { result ≡ self.now.count }
+        ensures { result ≡ length self.now.raw.now }
     {
-        self.count
+        self.raw.len()
     }
 
     pub fn get(&self, i: usize) -> F
-        requires { i < self.now.count }
-        ensures { result ≡ F.value (drop (i * F.WIDTH) self.now.bytes.now) }
+        requires { i < length self.now.raw.now }
+        ensures { (d : F.Raw) → result ≡ F.held (get_or self.now.raw.now i d) }
     {
-        F::read(&self.bytes[i * F::WIDTH..])
+        F::read(&self.raw[i])
     }
 
     // All items, to the front of an array. By place: nothing is known of what a zip with iter_mut wrote.
     pub fn fill(&self, array: &mut [F])
-        requires { self.now.count ≤ length array.old }
-        ensures { array.new ≡ fields F.WIDTH F.value self.now.count self.now.bytes.now ++ drop self.now.count array.old }
+        requires { length self.now.raw.now ≤ length array.old }
+        ensures { array.new ≡ map F.held self.now.raw.now ++ drop (length self.now.raw.now) array.old }
     {
-        for (i, item) in array[..self.count].iter_mut().enumerate() {
+        for (i, item) in array[..self.len()].iter_mut().enumerate() {
             *item = self.get(i);
         }
     }
@@ -134,25 +143,22 @@ impl<'a, F: Field> Items<'a, F> {
 impl<'a, F: Field> Iterator for Items<'a, F> {
     type Item = F;
 
-    ghost next_gives = { YieldsFirst (λ v. fields F.WIDTH F.value v.count v.bytes.now) };
+    ghost next_gives = { YieldsFirst (λ v. map F.held v.raw.now) };
 
-    ghost remaining = { λ v. at_most v.count };
+    ghost remaining = { λ v. at_most (length v.raw.now) };
 
     fn next(&mut self) -> Option<F> {
-        if self.count == 0 {
-            return None;
-        }
-        let x = F::read(self.bytes);
-        *self = Items::new(&self.bytes[F::WIDTH..], self.count - 1);
-        Some(x)
+        let (first, rest) = self.raw.split_first()?;
+        self.raw = rest;
+        Some(F::read(first))
     }
 
     fn size_hint(&self) -> (usize, Option<usize>)
-        ensures lower { IsWithinCount result.0 (at_most self.now.count) }
-        ensures upper { IfSome result.1 (UpTo (at_most self.now.count)) }
-        ensures exact { (result.0 ≡ self.now.count) × (result.1 ≡ Some self.now.count) }
+        ensures lower { IsWithinCount result.0 (at_most (length self.now.raw.now)) }
+        ensures upper { IfSome result.1 (UpTo (at_most (length self.now.raw.now))) }
+        ensures exact { (result.0 ≡ length self.now.raw.now) × (result.1 ≡ Some (length self.now.raw.now)) }
     {
-        (self.count, Some(self.count))
+        (self.len(), Some(self.len()))
     }
 }
 
@@ -164,9 +170,9 @@ pub struct JobRecord<'a> {
     pub lamps: Items<'a, u16>,
     pub sweep: Items<'a, Reading>,
     pub check: Items<'a, u32>,
-    ghost five: { settings.count ≡ 5 },
-    ghost up_to_8: { lamps.count ≤ 8 },
-    ghost some: { 2 ≤ sweep.count },
-    ghost up_to_1024: { sweep.count ≤ 1024 },
-    ghost up_to_18: { check.count ≤ 18 },
+    ghost five: { length settings.raw.now ≡ 5 },
+    ghost up_to_8: { length lamps.raw.now ≤ 8 },
+    ghost some: { 2 ≤ length sweep.raw.now },
+    ghost up_to_1024: { length sweep.raw.now ≤ 1024 },
+    ghost up_to_18: { length check.raw.now ≤ 18 },
 }

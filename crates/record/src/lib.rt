@@ -1,13 +1,13 @@
 // The job record: any bytes give its sections and, after tests 5 to 7, its job, or the first refusal from 2 to 7.
 #![tactic(auto)]
 
-ghost use Rattle.std.specs.Prelude.{◌≡◌, ◌&&◌, ◌-◌, ◌<◌, ◌≤◌, ◌++◌, length, drop, get_or, sum, T, eqb, is_none, IfSome, Ok, Err, MatchResult};
+ghost use Rattle.std.specs.Prelude.{◌≡◌, ◌&&◌, ◌-◌, ◌<◌, ◌≤◌, ◌++◌, length, drop, map, get_or, sum, T, eqb, is_none, IfSome, Ok, Err, MatchResult};
 ghost use Rattle.laws.specs.Rises.{rises_by};
 ghost use Rattle.record.specs.declared.Refusal.TheVariants.{OutOfRange};
 ghost use Rattle.record.specs.Refusals.{refusal_number};
 ghost use Rattle.record.specs.Sections.{permitted, width, count_of};
 ghost use Rattle.record.specs.Tests.{within, meter_of, class_of, meter_number, class_number, settings_in_range, settings_of, lamps_in_range, is_never_falling, max_ddl, unless, judged};
-ghost use Rattle.record.specs.Reader.{values, ddls_of, luminances_of, Taken, steps_up, LevelsRise, ReadFrom};
+ghost use Rattle.record.specs.Reader.{words, ddls_of, luminances_of, TakenAs, steps_up, LevelsRise, ReadFrom};
 
 mod items;
 
@@ -142,12 +142,12 @@ fn permits(section: Section, n: usize) -> bool
 // The section at the front of some bytes, and what follows it.
 fn take_section<F: Field>(bytes: &[u8], section: Section) -> Result<(Items<'_, F>, &[u8]), Refusal>
     requires { F.WIDTH ≡ width section }
-    ensures { MatchResult result (λ p. Taken section bytes.now p.0.count p.0.bytes.now p.1.now) (λ r. count_of section bytes.now ≡ Err r) }
+    ensures { MatchResult result (λ p. TakenAs F.value section bytes.now (map F.held p.0.raw.now) p.1.now) (λ r. count_of section bytes.now ≡ Err r) }
 {
     if bytes.len() < 2 {
         return Err(Refusal::RecordTooShort);
     }
-    let n = usize::from(u16::read(bytes));
+    let n = usize::from(u16::read(&[bytes[0], bytes[1]]));
     let size = n * F::WIDTH;
     let rest = &bytes[2..];
     if !permits(section, n) {
@@ -157,14 +157,14 @@ fn take_section<F: Field>(bytes: &[u8], section: Section) -> Result<(Items<'_, F
         return Err(Refusal::RecordTooShort);
     }
     let (items, rest) = rest.split_at(size);
-    Ok((Items::new(items, n), rest))
+    Ok((Items::new(F::split(items)), rest))
 }
 
 // ---- test 5, and the job of settings and lamps that pass it
 
 fn job_settings(settings: &Items<'_, u16>) -> Result<JobSettings, Refusal>
-    requires { settings.now.count ≡ 5 }
-    ensures { result ≡ unless (settings_in_range (values settings.now)) OutOfRange (Ok (settings_of (values settings.now))) }
+    requires { length settings.now.raw.now ≡ 5 }
+    ensures { result ≡ unless (settings_in_range (words settings.now)) OutOfRange (Ok (settings_of (words settings.now))) }
 {
     let depth = settings.get(0);
     let meter = Meter::try_from(settings.get(1))?;
@@ -185,15 +185,15 @@ fn job_settings(settings: &Items<'_, u16>) -> Result<JobSettings, Refusal>
 }
 
 fn lamps_in_range(lamps: &Items<'_, u16>) -> bool
-    ensures { result ≡ lamps_in_range (values lamps.now) }
+    ensures { result ≡ lamps_in_range (words lamps.now) }
 {
     let mut lamps = *lamps;
     lamps.all(|lux| lux <= 2000)
 }
 
 fn lamp_sum(lamps: &Items<'_, u16>) -> Lux
-    requires { (lamps.now.count ≤ 8) × T (lamps_in_range (values lamps.now)) }
-    ensures { result.0 ≡ sum (values lamps.now) }
+    requires { (length lamps.now.raw.now ≤ 8) × T (lamps_in_range (words lamps.now)) }
+    ensures { result.0 ≡ sum (words lamps.now) }
 {
     Lux(lamps.sum())
 }
@@ -211,8 +211,8 @@ pub fn max_ddl(depth: u16) -> Ddl
 impl Items<'_, Reading> {
     // Whether a sweep begins at level 0 and ends at the highest.
     fn ends_span(&self, top: Ddl) -> bool
-        requires { 1 ≤ self.now.count }
-        ensures { result ≡ (eqb (get_or (ddls_of self.now) 0 0) 0 && eqb (get_or (ddls_of self.now) (self.now.count - 1) 0) top.0) }
+        requires { 1 ≤ length self.now.raw.now }
+        ensures { result ≡ (eqb (get_or (ddls_of self.now) 0 0) 0 && eqb (get_or (ddls_of self.now) (length self.now.raw.now - 1) 0) top.0) }
     {
         let first = self.get(0).ddl;
         let last = self.get(self.len() - 1).ddl;
@@ -221,7 +221,7 @@ impl Items<'_, Reading> {
 
     // Whether reading i has a higher level than the one before it, and no lower luminance.
     fn steps_up(&self, i: usize) -> bool
-        requires { (1 ≤ i) × (i < self.now.count) }
+        requires { (1 ≤ i) × (i < length self.now.raw.now) }
         ensures { result ≡ steps_up (ddls_of self.now) (luminances_of self.now) i }
     {
         let below = self.get(i - 1);
@@ -239,9 +239,9 @@ impl Items<'_, Reading> {
 
     // All levels and all luminances, to the front of two slices. By place: nothing is known of what a zip of two iter_mut wrote.
     pub fn fill_sweep(&self, ddls: &mut [u16], luminances: &mut [u32])
-        requires { (self.now.count ≤ length ddls.old) × (self.now.count ≤ length luminances.old) }
-        ensures ddls { ddls.new ≡ ddls_of self.now ++ drop self.now.count ddls.old }
-        ensures luminances { luminances.new ≡ luminances_of self.now ++ drop self.now.count luminances.old }
+        requires { (length self.now.raw.now ≤ length ddls.old) × (length self.now.raw.now ≤ length luminances.old) }
+        ensures ddls { ddls.new ≡ ddls_of self.now ++ drop (length self.now.raw.now) ddls.old }
+        ensures luminances { luminances.new ≡ luminances_of self.now ++ drop (length self.now.raw.now) luminances.old }
     {
         for i in 0..self.len() {
             let reading = self.get(i);
@@ -267,10 +267,10 @@ fn judge(
     lamps: &Items<'_, u16>,
     sweep: &Items<'_, Reading>,
 ) -> Result<Job, Refusal>
-    requires five { settings.now.count ≡ 5 }
-    requires up_to_8 { lamps.now.count ≤ 8 }
-    requires some { 2 ≤ sweep.now.count }
-    ensures { result ≡ judged (values settings.now) (values lamps.now) (ddls_of sweep.now) (luminances_of sweep.now) }
+    requires five { length settings.now.raw.now ≡ 5 }
+    requires up_to_8 { length lamps.now.raw.now ≤ 8 }
+    requires some { 2 ≤ length sweep.now.raw.now }
+    ensures { result ≡ judged (words settings.now) (words lamps.now) (ddls_of sweep.now) (luminances_of sweep.now) }
 {
     let settings = job_settings(settings)?;
     if !lamps_in_range(lamps) {

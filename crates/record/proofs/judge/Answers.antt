@@ -1,7 +1,8 @@
 use Rattle.laws.proofs.Cases.{err_returned}
-use Rattle.std.proofs.Common.{ℕ, arith}
+use Rattle.std.proofs.Common.{arith}
 use Rattle.record.specs.Tests.{judged, settings_in_range, settings_of}
-use Rattle.record.proofs.Fields.{fields_length}
+use Rattle.std.proofs.lemmas.List.{length-map}
+use Rattle.record.specs.Bytes.{word}
 use Rattle.record.proofs.judge.Goals as goal
 
 pub returns-in_err-settings : goal.returns-in_err-settings
@@ -18,16 +19,16 @@ max_ddl-top-requires c = grind arith
 
 pub returns-then-not-ends_span : goal.returns-then-not-ends_span
 unfolding judged settings_of
-returns-then-not-ends_span c = grind (arith, fields_length {A = ℕ})
+returns-then-not-ends_span c = grind (arith, length-map c.args.sweep.now.raw.now (word 0))
 
 pub returns-then-rise_from : goal.returns-then-rise_from
 unfolding judged settings_of
-returns-then-rise_from c = grind (arith, fields_length {A = ℕ})
+returns-then-rise_from c = grind (arith, length-map c.args.sweep.now.raw.now (word 0))
 
 pub returns-in-Some : goal.returns-in-Some
 unfolding judged settings_of
-returns-in-Some c = grind (arith, fields_length {A = ℕ})
+returns-in-Some c = grind (arith, length-map c.args.sweep.now.raw.now (word 0))
 
 pub returns : goal.returns
 unfolding judged settings_of
-returns c = grind (arith, fields_length {A = ℕ})
+returns c = grind (arith, length-map c.args.sweep.now.raw.now (word 0))

@@ -2,6 +2,7 @@ use Rattle.laws.proofs.Cases.{err_returned}
 use Rattle.std.proofs.Common.{arith}
 use Rattle.record.specs.Sections.{layout_of, sections}
 use Rattle.record.specs.Tests.{answer_of}
+use Rattle.record.proofs.Held.{answer_read}
 use Rattle.record.proofs.read_record.Goals as goal
 
 pub returns-in_err-settings : goal.returns-in_err-settings
@@ -26,4 +27,4 @@ returns-then-not-is_empty c = grind arith
 
 pub returns : goal.returns
 unfolding answer_of sections layout_of
-returns c = grind arith
+returns c = answer_read _ c.in_ok-settings.ensures c.in_ok-lamps.ensures c.in_ok-sweep.ensures c.in_ok-check.ensures (grind arith) c.judge-job.ensures

@@ -1,7 +1,7 @@
-use Rattle.std.proofs.Common.{sym, ◌∙◌, arith}
+use Rattle.std.proofs.Common.{sym, refl, ap, map, ◌∙◌, arith, rules}
 use lib.ListN.{length-drop}
 use Prim.Native.Nat.{ℕ}
-use Rattle.record.proofs.Held.{taken}
+use Rattle.record.proofs.Held.{taken, taken_as}
 use Rattle.record.specs.Sections.{count_of}
 use Rattle.record.proofs.take_section.Goals as goal
 
@@ -18,4 +18,6 @@ unfolding count_of
 returns-then-rest-size g c = grind (arith, length-drop {A = ℕ})
 
 pub returns : goal.returns
-returns g c = taken _ _ c.if-bytes-lt2.false (c.from-n.ensures ∙ c.read.ensures) (c.WIDTH.ensures ∙ c.requires) (sym c.if-not-permits.ensures) c.if-rest-size.false c.split_at.ensures.front c.split_at.ensures.back c.new.ensures.all c.new.ensures.there
+returns g c =
+    taken_as g.F.Field.value (taken _ _ c.if-bytes-lt2.false (c.from-n.ensures ∙ (search rules)) (c.WIDTH.ensures ∙ c.requires) (sym c.if-not-permits.ensures) c.if-rest-size.false c.split_at.ensures.front c.split_at.ensures.back refl refl)
+    c.requires (rw (← c.WIDTH.ensures) c.split_at.ensures.front_len) (ap (map g.F.Field.held) c.new.ensures ∙ c.split.ensures)

@@ -8,7 +8,7 @@ pub get-requires : goal.get-requires
 get-requires c = omega (arith, readings c.args.self.now)
 
 pub returns-clause-ddl : goal.returns-clause-ddl
-returns-clause-ddl c = ddl_at _ _ c.args.i (place_in c.args.self.now c.requires.0) c.get.ensures 0
+returns-clause-ddl c = ddl_at _ c.args.i (place_in c.args.self.now c.requires.0) c.get.ensures 0
 
 pub returns-clause-luminance : goal.returns-clause-luminance
-returns-clause-luminance c = luminance_at _ _ c.args.i (place_in c.args.self.now c.requires.0) c.get.ensures 0
+returns-clause-luminance c = luminance_at _ c.args.i (place_in c.args.self.now c.requires.0) c.get.ensures 0

@@ -1,17 +1,17 @@
 use Rattle.std.proofs.Common.{◌∙◌, arith}
 use Rattle.laws.proofs.Fill.{copied_more, copied_all}
-use Rattle.record.proofs.Fields.{fields_length}
+use Rattle.std.proofs.lemmas.List.{length-map}
 use Rattle.record.proofs.Climbing.{ddl_at, luminance_at}
 use Rattle.record.proofs.Items+Reading.fill_sweep.Goals as goal
 
 pub loop-i-preserved : goal.loop-i-preserved
 loop-i-preserved c = (
-  copied_more _ _ _ c.loop-i.i _ c.loop-i.invariant.0 (rw fields_length (omega arith)) (omega arith) (ddl_at _ _ c.loop-i.i (omega arith) c.get-reading.ensures _),
-  copied_more _ _ _ c.loop-i.i _ c.loop-i.invariant.1 (rw fields_length (omega arith)) (omega arith) (luminance_at _ _ c.loop-i.i (omega arith) c.get-reading.ensures _),
+  copied_more _ _ _ c.loop-i.i _ c.loop-i.invariant.0 (rw length-map (omega arith)) (omega arith) (ddl_at _ c.loop-i.i (omega arith) c.get-reading.ensures _),
+  copied_more _ _ _ c.loop-i.i _ c.loop-i.invariant.1 (rw length-map (omega arith)) (omega arith) (luminance_at _ c.loop-i.i (omega arith) c.get-reading.ensures _),
 )
 
 pub returns-clause-ddls : goal.returns-clause-ddls
-returns-clause-ddls c = copied_all _ _ _ c.loop-i.i c.loop-i.invariant.0 (rw fields_length (omega arith)) (rw fields_length (omega arith)) ∙ rw fields_length
+returns-clause-ddls c = copied_all _ _ _ c.loop-i.i c.loop-i.invariant.0 (rw length-map (omega arith)) (rw length-map (omega arith)) ∙ rw length-map
 
 pub returns-clause-luminances : goal.returns-clause-luminances
-returns-clause-luminances c = copied_all _ _ _ c.loop-i.i c.loop-i.invariant.1 (rw fields_length (omega arith)) (rw fields_length (omega arith)) ∙ rw fields_length
+returns-clause-luminances c = copied_all _ _ _ c.loop-i.i c.loop-i.invariant.1 (rw length-map (omega arith)) (rw length-map (omega arith)) ∙ rw length-map

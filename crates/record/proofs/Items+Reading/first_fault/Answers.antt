@@ -1,9 +1,8 @@
 use Rattle.std.proofs.Common.{rules, ◌≡◌, true, false}
 use Rattle.std.proofs.lemmas.Iterator.{first_from_Range}
 use borrow.Author.Tests.{tests}
-use Rattle.record.specs.Bytes.{word, long}
 use Rattle.record.specs.Reader.{ddls_of, luminances_of, steps_up}
-use Rattle.record.proofs.Fields.{fields_length}
+use Rattle.std.proofs.lemmas.List.{length-map}
 use Rattle.record.proofs.Climbing.{FirstFault, all_step_up, rise_before}
 use Rattle.record.proofs.Items+Reading.first_fault.Goals as goal
 
@@ -16,7 +15,7 @@ found c =
     (λ x q k. search (rules, tests))
 
 pub returns-clause-none : goal.returns-clause-none
-returns-clause-none c = all_step_up _ _ (rw c.len.ensures (fields_length 6 (word 0) _ _)) (rw c.len.ensures (fields_length 6 (long 2) _ _)) c.find.result (found c)
+returns-clause-none c = all_step_up _ _ (rw c.len.ensures (length-map _ _)) (rw c.len.ensures (length-map _ _)) c.find.result (found c)
 
 pub returns-clause-before : goal.returns-clause-before
-returns-clause-before c = rise_before _ _ (rw c.len.ensures (fields_length 6 (word 0) _ _)) c.find.result (found c)
+returns-clause-before c = rise_before _ _ (rw c.len.ensures (length-map _ _)) c.find.result (found c)

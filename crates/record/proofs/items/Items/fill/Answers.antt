@@ -1,19 +1,20 @@
-use Rattle.std.proofs.Common.{sym, ◌∙◌, arith}
-use Rattle.std.proofs.lemmas.List.{drop_all}
+use Rattle.std.proofs.Common.{arith, ap, ◌++◌}
+use Rattle.std.proofs.lemmas.List.{drop_all, length-map}
 use mathlib.Core.List.{append-nil}
-use lib.ListN.{take}
+use lib.ListN.{take, drop}
 use lib.Seq.{length-take-le}
 use Rattle.laws.proofs.Fill.{copied_more, copied_all}
-use Rattle.record.proofs.Fields.{fields_length, field_at}
+use Rattle.record.proofs.Fields.{held_at}
 use Rattle.record.proofs.items.Items.fill.Goals as goal
 
 pub loop-i-preserved : goal.loop-i-preserved
 loop-i-preserved g c =
-    let n = length-take-le c.args.self.now.count c.args.array.now c.requires in
-    copied_more _ _ _ c.loop-i.i _ c.loop-i.invariant (rw fields_length (omega (arith, n))) (omega (arith, n)) (c.get.ensures ∙ sym (field_at _ _ _ _ c.loop-i.i _ (omega (arith, n))))
+    let n = length-take-le c.len.result c.args.array.now (omega (arith, c.requires, c.len.ensures)) in
+    copied_more _ _ _ c.loop-i.i _ c.loop-i.invariant (rw length-map (omega (arith, n, c.len.ensures))) (omega (arith, n)) (held_at _ _ c.loop-i.i _ (omega (arith, n, c.len.ensures)) c.get.ensures)
 
 pub returns : goal.returns
 returns g c =
-    let n = length-take-le c.args.self.now.count c.args.array.now c.requires in
-    let none = drop_all c.args.self.now.count (take c.args.self.now.count c.args.array.now) (omega (arith, n)) in
-    rw (copied_all _ _ _ c.loop-i.i c.loop-i.invariant (rw fields_length (omega (arith, n))) (rw fields_length (omega (arith, n))), fields_length, none, append-nil)
+    let n = length-take-le c.len.result c.args.array.now (omega (arith, c.requires, c.len.ensures)) in
+    let none = drop_all c.len.result (take c.len.result c.args.array.now) (omega (arith, n)) in
+    let all = copied_all _ _ _ c.loop-i.i c.loop-i.invariant (rw length-map (omega (arith, n, c.len.ensures))) (rw length-map (omega (arith, n, c.len.ensures))) in
+    rw (all, length-map, ← c.len.ensures, none) (ap (λ xs. xs ++ drop c.len.result c.args.array.now) (append-nil _))
