@@ -1,13 +1,11 @@
 -- A rule of a whole list by one test: each entry is at least s above the one before it.
 -- Assumes nothing.
-use mathlib.Core.Path.{◌≡◌}
-use mathlib.Core.Bool.{true, false}
 use mathlib.Core.List.{List, [], ◌∷◌}
 use Prim.Native.Nat.{ℕ, zero, suc, ◌+◌, ◌-◌, ◌≤◌, ◌<◌}
 use native.Mathlib.Omega.{arith}
 use native.Mathlib.Nat.{le_of_suc-le-suc}
 use lib.Dec.{T}
-use lib.ListN.{length, get_or, drop}
+use lib.ListN.{length, get_or}
 use Rattle.laws.specs.Rises.{rises_from, rises_by, NeverFalls}
 use Rattle.laws.specs.Fill.{tab}
 use Rattle.laws.proofs.Fill.{length_tab, get_or_tab}
@@ -30,30 +28,6 @@ pub keeps_by_steps : (xs : List ℕ) → ((i : ℕ) → i + 1 < length xs → ge
 keeps_by_steps xs h =
     let grows : Grows (λ i. get_or xs i 0) 0 0 (length xs - 1) = grind (arith, h) in
     grind (arith, never_falls grows)
-
--- ---- the test, one entry at a time, as a loop makes it
-
--- x is the entry before place i, and the outcome of the test is that of what stands from x on
-pub record RisesSoFar (s : ℕ) (xs : List ℕ) (x i : ℕ) : Type 0 where
-  pub is : rises_by s xs ≡ rises_from s x (drop i xs)
-
-pub rises_first : (s : ℕ) (xs : List ℕ) (x : ℕ) → xs ≡ x ∷ drop 1 xs → RisesSoFar s xs x 1
-unfolding rises_by
-rises_first s xs x e = grind arith
-
-module _ {s : ℕ} {xs : List ℕ} {x i : ℕ} (h : RisesSoFar s xs x i) where
-  module _ (y : ℕ) (e : drop i xs ≡ y ∷ drop (i + 1) xs) where
-    pub rises_more : x + s ≤ y → RisesSoFar s xs y (i + 1)
-    unfolding rises_from
-    rises_more l = grind arith
-
-    pub rises_not : y < x + s → rises_by s xs ≡ false
-    unfolding rises_from
-    rises_not l = grind arith
-
-  pub rises_end : drop i xs ≡ [] → rises_by s xs ≡ true
-  unfolding rises_from
-  rises_end e = grind arith
 
 -- a list of a function's values never falls where the function does not
 pub tab_keeps : (f : ℕ → ℕ) (n : ℕ) → ((i k : ℕ) → i ≤ k → k < n → f i ≤ f k) → NeverFalls (tab f n)
