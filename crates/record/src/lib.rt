@@ -139,7 +139,7 @@ fn permits(section: Section, n: usize) -> bool
     }
 }
 
-// The section at the front of some bytes, and what follows it.
+// The section at the front of some bytes, and what follows it. The type of its items does not tell the section: settings and lamps have one.
 fn take_section<F: Field>(bytes: &[u8], section: Section) -> Result<(Items<'_, F>, &[u8]), Refusal>
     requires { F.WIDTH ≡ width section }
     ensures { MatchResult result (λ p. TakenAs F.value section bytes.now (map F.held p.0.raw.now) p.1.now) (λ r. count_of section bytes.now ≡ Err r) }
@@ -269,7 +269,7 @@ fn judge(
 ) -> Result<Job, Refusal>
     requires five { length settings.now.raw.now ≡ 5 }
     requires up_to_8 { length lamps.now.raw.now ≤ 8 }
-    requires some { 2 ≤ length sweep.now.raw.now }
+    requires some { 1 ≤ length sweep.now.raw.now }
     ensures { result ≡ judged (words settings.now) (words lamps.now) (ddls_of sweep.now) (luminances_of sweep.now) }
 {
     let settings = job_settings(settings)?;
