@@ -17,4 +17,4 @@ pub shared_ref_as_front-result : goal.shared_ref_as_front-result
 shared_ref_as_front-result c = omega (arith, c.from.ensures, highest c.requires.1 _ c.max_ddl-top.ensures)
 
 pub returns : goal.returns
-returns c = λ bytes p. rw (c.from.ensures) (job_drawn p _ c.max_ddl-top.ensures _ c.args.targets.now c.fill_curve.ensures c.fill_targets.ensures c.told-targets)
+returns c = λ bytes p. rw c.from.ensures (job_drawn p _ c.max_ddl-top.ensures _ c.args.targets.now c.fill_curve.ensures c.fill_targets.ensures c.told-targets)
