@@ -9,9 +9,3 @@ loop-i-preserved c = (
   copied_more _ _ _ c.loop-i.i _ c.loop-i.invariant.0 (rw length-map (omega arith)) (omega arith) (ddl_at _ c.loop-i.i (omega arith) c.get-reading.ensures _),
   copied_more _ _ _ c.loop-i.i _ c.loop-i.invariant.1 (rw length-map (omega arith)) (omega arith) (luminance_at _ c.loop-i.i (omega arith) c.get-reading.ensures _),
 )
-
-pub returns-clause-ddls : goal.returns-clause-ddls
-returns-clause-ddls c = copied_all _ _ _ c.loop-i.i c.loop-i.invariant.0 (rw length-map (omega arith)) (rw length-map (omega arith)) ∙ rw length-map
-
-pub returns-clause-luminances : goal.returns-clause-luminances
-returns-clause-luminances c = copied_all _ _ _ c.loop-i.i c.loop-i.invariant.1 (rw length-map (omega arith)) (rw length-map (omega arith)) ∙ rw length-map

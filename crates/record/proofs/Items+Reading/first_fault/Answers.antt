@@ -16,6 +16,3 @@ found c =
 
 pub returns-clause-none : goal.returns-clause-none
 returns-clause-none c = all_step_up _ _ (rw c.len.ensures (length-map _ _)) (rw c.len.ensures (length-map _ _)) c.find.result (found c)
-
-pub returns-clause-before : goal.returns-clause-before
-returns-clause-before c = rise_before _ _ (rw c.len.ensures (length-map _ _)) c.find.result (found c)

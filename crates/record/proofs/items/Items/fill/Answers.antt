@@ -11,10 +11,3 @@ pub loop-i-preserved : goal.loop-i-preserved
 loop-i-preserved g c =
     let n = length-take-le c.len.result c.args.array.now (omega (arith, c.requires, c.len.ensures)) in
     copied_more _ _ _ c.loop-i.i _ c.loop-i.invariant (rw length-map (omega (arith, n, c.len.ensures))) (omega (arith, n)) (held_at _ _ c.loop-i.i _ (omega (arith, n, c.len.ensures)) c.get.ensures)
-
-pub returns : goal.returns
-returns g c =
-    let n = length-take-le c.len.result c.args.array.now (omega (arith, c.requires, c.len.ensures)) in
-    let none = drop_all c.len.result (take c.len.result c.args.array.now) (omega (arith, n)) in
-    let all = copied_all _ _ _ c.loop-i.i c.loop-i.invariant (rw length-map (omega (arith, n, c.len.ensures))) (rw length-map (omega (arith, n, c.len.ensures))) in
-    rw (all, length-map, ← c.len.ensures, none) (ap (λ xs. xs ++ drop c.len.result c.args.array.now) (append-nil _))
