@@ -8,7 +8,7 @@ use native.Mathlib.Nat.{add-zero, add-suc, not-suc-le-zero, le_of_suc-le-suc, eq
 use native.Mathlib.Numerals.{add-one}
 use native.Mathlib.Omega.{arith}
 use lib.ListN.{length, take, drop, set, get_or, length-set, length-append, get_or-append, length-drop, drop_of_length-le}
-use lib.Seq.{drop-cons, drop-drop, set_at, get_or_at, take_at, drop_at, take-suc, take-length, length-take-le}
+use lib.Seq.{drop-cons, drop-drop, set_at, get_or_at, take_at, drop_at, take-suc, length-take-le}
 use Rattle.laws.specs.Fill.{tab}
 
 module _ {ℓ} {A : Type ℓ} (f : ℕ → A) where
@@ -83,6 +83,3 @@ module _ {ℓ} {A : Type ℓ} (xs d : List A) where
   copied_more now i x h l k e = record {
     is = rw (add-one, h.is, drop-cons d i x k, set_at (take i xs) _ _ x i (length-take-le i xs (omega arith)), take-suc xs i x l, ← e, append_assoc);
   }
-
-  pub copied_all : (now : List A) (i : ℕ) → Copied xs d now i → length xs ≤ i → i ≤ length xs → now ≡ xs ++ drop (length xs) d
-  copied_all now i h l k = grind (arith, take-length)

@@ -1,6 +1,6 @@
 -- The sweep of a record: levels that rise and luminances that do not fall.
 -- Assumes nothing.
-use Rattle.std.specs.Prelude.{Option, Some, None, MatchOption, MatchBool, IfSome, is_none}
+use Rattle.std.specs.Prelude.{Option, Some, None, MatchOption, MatchBool, is_none}
 use Prim.Native.Nat.{ℕ, zero, suc, ◌+◌, ◌-◌, ◌≤◌, ◌<◌}
 use mathlib.Core.Path.{◌≡◌, sym}
 use mathlib.Core.List.{List, [], ◌∷◌, map}
@@ -57,10 +57,6 @@ module _ (dd lu : List ℕ) {n : ℕ} (dds : length dd ≡ n) where
   pub all_step_up : length lu ≡ n → (r : Option ℕ) → FirstFault dd lu n r → is_none r ≡ (rises_by 1 dd && rises_by 0 lu)
   all_step_up lus None up = grind (arith, rises 1 dd (λ k a b. grind (arith, up k)), rises 0 lu (λ k a b. grind (arith, up k)))
   all_step_up lus (Some i) (a, b, c, up) = grind (arith, rises_not 1 dd i, rises_not 0 lu i)
-
-  pub rise_before : (r : Option ℕ) → FirstFault dd lu n r → IfSome r (LevelsRise dd)
-  rise_before None up = tt
-  rise_before (Some i) (a, b, c, up) = record { some = a; is = λ k l m. grind (arith, up k) }
 
 -- the level of reading k, as it is read
 abbrev pub level_at : List (List ℕ) → ℕ → ℕ

@@ -1,5 +1,5 @@
-use Rattle.std.proofs.Common.{◌∙◌, arith}
-use Rattle.laws.proofs.Fill.{copied_more, copied_all}
+use Rattle.std.proofs.Common.{arith}
+use Rattle.laws.proofs.Fill.{copied_more}
 use Rattle.std.proofs.lemmas.List.{length-map}
 use Rattle.record.proofs.Climbing.{ddl_at, luminance_at}
 use Rattle.record.proofs.Items+Reading.fill_sweep.Goals as goal

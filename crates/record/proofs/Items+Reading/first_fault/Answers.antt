@@ -3,7 +3,7 @@ use Rattle.std.proofs.lemmas.Iterator.{first_from_Range}
 use borrow.Author.Tests.{tests}
 use Rattle.record.specs.Reader.{ddls_of, luminances_of, steps_up}
 use Rattle.std.proofs.lemmas.List.{length-map}
-use Rattle.record.proofs.Climbing.{FirstFault, all_step_up, rise_before}
+use Rattle.record.proofs.Climbing.{FirstFault, all_step_up}
 use Rattle.record.proofs.Items+Reading.first_fault.Goals as goal
 
 found : (c : goal.After-find) → FirstFault (ddls_of c.args.self.now) (luminances_of c.args.self.now) c.len.result c.find.result

@@ -1,9 +1,7 @@
-use Rattle.std.proofs.Common.{arith, ap, ◌++◌}
-use Rattle.std.proofs.lemmas.List.{drop_all, length-map}
-use mathlib.Core.List.{append-nil}
-use lib.ListN.{take, drop}
+use Rattle.std.proofs.Common.{arith}
+use Rattle.std.proofs.lemmas.List.{length-map}
 use lib.Seq.{length-take-le}
-use Rattle.laws.proofs.Fill.{copied_more, copied_all}
+use Rattle.laws.proofs.Fill.{copied_more}
 use Rattle.record.proofs.Fields.{held_at}
 use Rattle.record.proofs.items.Items.fill.Goals as goal
 
