@@ -131,7 +131,7 @@ def place(error, log):
     if proof:
         return proof.group(1) or proof.group(2), proof.group(3)
     goal = re.match(GOAL + r'.*\(`([^`]+)`\)', error)
-    function = goal and re.search(r'^fn \w+::(?:\w+::)*(\w+): (?:not proved|no proof)', log[log.index(error) :], re.M)
+    function = goal and re.search(r'^fn \w+::(?:\w+::)*(?:\w+\+\w+::)?(\w+): (?:not proved|no proof)', log[log.index(error) :], re.M)
     return (function.group(1), goal.group(1)) if function else None
 
 
