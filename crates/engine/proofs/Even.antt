@@ -13,6 +13,7 @@ use Rattle.record.specs.declared.Refusal.TheVariants.{LentTooShort, NoTable}
 use Rattle.even.specs.Even.{Given}
 use Rattle.even.specs.Table.{has_no_table}
 use Rattle.even.specs.Filled.{given, outcome_of, Workable, EvenFilled}
+use Rattle.target.specs.declared.IndexRange.{IndexRange}
 use Rattle.engine.specs.declared.EvenFigures.{EvenFigures}
 use Rattle.engine.specs.Sound.{soundness}
 use Rattle.engine.specs.Even.{outcome_answer, too_little, even_answer, even_lent, EvenPromise}
@@ -35,7 +36,7 @@ words_kept : (x : Given) {before after words words_after : List ℕ} {outcome : 
 unfolding outcome_of
 words_kept x h r e = by (has_no_table x) h.words_without_table (λ f. cc (simp (h.answers, f) at e))
 
-module _ {bytes curve targets : List ℕ} {tested : TestedJob} (d : Drawn bytes tested curve targets) where
+module _ {bytes curve targets : List ℕ} {tested : TestedJob} {indices : IndexRange} (d : Drawn bytes tested curve indices targets) where
   pub error_high : tested.job.settings.tolerance ≤ 1000
   error_high = (sound_job _ _ d.is).tolerance
 
@@ -59,7 +60,7 @@ module _ (bytes before words : List ℕ) where
     even_back r e =
         unchanged r (simp (long, e)) (simp (long, e))
 
-    module _ {tested : TestedJob} {curve targets : List ℕ} (d : Drawn bytes tested curve targets) where
+    module _ {tested : TestedJob} {curve targets : List ℕ} {indices : IndexRange} (d : Drawn bytes tested curve indices targets) where
       pub even_filled : {after words_after : List ℕ} {outcome : Option ℕ} {answer : Result EvenFigures Refusal}
           → EvenFilled (given curve targets tested.job.settings.tolerance) before after words words_after outcome → answer ≡ outcome_answer outcome
           → EvenPromise bytes before after words words_after answer

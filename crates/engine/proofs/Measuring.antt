@@ -2,12 +2,13 @@
 -- Assumes nothing.
 use mathlib.Core.Path.{◌≡◌}
 use mathlib.Core.List.{List}
-use Prim.Native.Nat.{ℕ, ◌+◌, ◌-◌, ◌≤◌}
+use Prim.Native.Nat.{ℕ, ◌-◌, ◌≤◌}
 use native.Mathlib.Omega.{arith}
 use lib.ListN.{length, get_or}
 use borrow.Author.Tests.{ltb-false}
-use Rattle.std.specs.Prelude.{Ok}
+use Rattle.std.specs.Prelude.{Result, Ok}
 use Rattle.record.specs.Sections.{after}
+use Rattle.record.specs.declared.Refusal.{Refusal}
 use Rattle.record.specs.declared.Job.{Job}
 use Rattle.curve.specs.Room.{room_mark}
 use Rattle.curve.specs.Curve.{curve_of, Sweep}
@@ -17,7 +18,7 @@ use Rattle.target.specs.Target.{range_of, targets_of, Aims}
 use Rattle.target.specs.declared.IndexRange.{IndexRange}
 use Rattle.target.proofs.Ranges.{range_low, range_high, range_between}
 use Rattle.engine.specs.Sound.{SoundJob, room_of, added_of, top_of, range_tests, measured}
-use Rattle.engine.specs.Drawing.{sweep_tests}
+use Rattle.engine.specs.Drawing.{black_of, white_of}
 
 -- ---- what tests 8, 9 and 10 let through
 
@@ -30,6 +31,10 @@ pub record Passed (black white : ℕ) (indices : IndexRange) : Type 0 where
 pub passed : (black white : ℕ) (indices : IndexRange) → range_tests black white ≡ Ok indices → Passed black white indices
 unfolding range_tests
 passed black white indices e = grind (arith, not_below, not_above, ltb-false)
+
+-- by A and the luminances of a sweep
+abbrev pub sweep_tests : (added : ℕ) (luminances : List ℕ) → Result IndexRange Refusal
+sweep_tests added luminances = range_tests (black_of added luminances) (white_of added luminances)
 
 -- ---- an accepted job and its sweep
 
@@ -56,7 +61,7 @@ module _ {job : Job} {ddls luminances : List ℕ} (m : Measurable job ddls lumin
   measured_is = rw (curve.curve_first m.sweep, curve.curve_last m.sweep, ← m.sweep.pairs)
 
   -- the last reading is not below the first
-  pub order : added_of job + get_or luminances 0 0 ≤ added_of job + get_or luminances (length luminances - 1) 0
+  pub order : black_of (added_of job) luminances ≤ white_of (added_of job) luminances
   order = omega (arith, m.sweep.keep.keeps 0 (length luminances - 1))
 
   pub aims : (indices : IndexRange) → sweep_tests (added_of job) luminances ≡ Ok indices → Aims indices.low.0 indices.range.0 255

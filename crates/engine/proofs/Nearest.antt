@@ -14,6 +14,7 @@ use Rattle.record.specs.Sections.{sections, luminances_in}
 use Rattle.curve.specs.Room.{room_mark}
 use Rattle.curve.specs.declared.RoomMark.{RoomMark}
 use Rattle.units.specs.declared.Luminance.{Luminance}
+use Rattle.target.specs.declared.IndexRange.{IndexRange}
 use Rattle.nearest.specs.Nearest.{Fillable, Filled}
 use Rattle.engine.specs.Sound.{SoundJob, soundness, IsSound, room_of}
 use Rattle.engine.specs.Nearest.{nearest_answer, nearest_lent, NearestPromise}
@@ -36,12 +37,12 @@ module _ (bytes before : List ℕ) where
     unfolding nearest_answer nearest_lent
     back r e = promised _ _ _ _ (simp (le-ltb _ _ long, e)) (simp (le-ltb _ _ long, e))
 
-    module _ {tested : TestedJob} {curve targets : List ℕ} (d : Drawn bytes tested curve targets) where
+    module _ {tested : TestedJob} {curve targets : List ℕ} {indices : IndexRange} (d : Drawn bytes tested curve indices targets) where
       pub fillable : Fillable curve targets before
       fillable = let known = sound_job bytes _ d.is in grind (arith, targets_keep known)
 
       pub filled : {mark : RoomMark} (after : List ℕ) (error : Luminance) → mark ≡ room_mark (room_of tested.job) (get_or (luminances_in (sections bytes)) 0 0)
           → Filled curve targets before after error.0
-          → NearestPromise bytes before after (Ok (record { indices = tested.indices; mark = mark; error = error }))
+          → NearestPromise bytes before after (Ok (record { indices = indices; mark = mark; error = error }))
       unfolding nearest_answer nearest_lent
       filled after error m h = promised _ _ _ _ (simp (le-ltb _ _ long, d.is) (rw (m, ← h.largest))) (simp (le-ltb _ _ long, d.is) h.table)

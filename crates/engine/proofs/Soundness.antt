@@ -19,8 +19,7 @@ use Rattle.target.proofs.Laws as target
 use Rattle.target.proofs.Ranges.{range_black, range_white, range_between}
 use Rattle.record.specs.declared.Refusal.{Refusal}
 use Rattle.engine.specs.Sound.{SoundJob, IsSound, added_of, top_of, measured, soundness}
-use Rattle.engine.specs.Drawing.{sweep_tests}
-use Rattle.engine.proofs.Measuring.{Measurable, order, passed, made_of, measured_is, aims}
+use Rattle.engine.proofs.Measuring.{Measurable, sweep_tests, order, passed, made_of, measured_is, aims}
 use Rattle.engine.proofs.Reading.{measurable}
 
 module _ {job : Job} {ddls luminances : List ℕ} (m : Measurable job ddls luminances) (error : job.settings.tolerance ≤ 1000) where

@@ -47,6 +47,10 @@ range_tests black white =
     (if too_narrow (range_of black white).range.0 then Err RangeTooNarrow else
     Ok (range_of black white)))
 
+-- they let a display pass, with the indices of F(0) and F(M)
+abbrev pub InRange : (black white : ℕ) → Type 0
+InRange black white = range_tests black white ≡ Ok (range_of black white)
+
 -- what an accepted job and its sweep make
 unfoldable pub measured : (job : Job) (ddls luminances : List ℕ) → Result SoundJob Refusal
 measured job ddls luminances =

@@ -2,7 +2,7 @@
 #![tactic(auto)]
 
 ghost use Rattle.std.specs.Prelude.{◌≡◌, ◌+◌, ◌≤◌, ℕ, List, MatchResult};
-ghost use Rattle.engine.specs.Sound.{range_tests, soundness};
+ghost use Rattle.engine.specs.Sound.{range_tests, InRange, soundness};
 ghost use Rattle.engine.specs.Drawing.{light_of, PassedTests, SomeRecord, Drawn};
 ghost use Rattle.engine.specs.Nearest.{NearestPromise};
 ghost use Rattle.engine.specs.Even.{too_little, EvenPromise};
@@ -36,13 +36,12 @@ pub struct EvenFigures {
     pub worst: u64,
 }
 
-// A record that passed tests 2 to 10: its job, the light of the job's room, and its index range.
+// A record that passed tests 2 to 10: its job, and the light of the job's room.
 #[derive(Drop)]
 struct TestedJob<'a> {
     found: JobRecord<'a>,
     job: Job,
     light: Light,
-    indices: IndexRange,
 }
 
 fn light_of(job: Job) -> Light
@@ -53,11 +52,15 @@ fn light_of(job: Job) -> Light
     Light { room, added }
 }
 
-// Tests 8, 9 and 10, by the first and the last reading and the light added to them: a struct of these would be made to be taken apart here.
-fn test_range(added: Luminance, first: Luminance, last: Luminance) -> Result<IndexRange, Refusal>
+// Tests 8, 9 and 10, by the first and the last reading and the light added to them. Of most displays they look at four entries of Table B-1 and search for
+// none: a check needs no index of its display.
+fn test_range(added: Luminance, first: Luminance, last: Luminance) -> Result<(), Refusal>
     requires { first.0 ≤ last.0 }
-    ensures { result ≡ range_tests (added.0 + first.0) (added.0 + last.0) }
+    ensures { MatchResult result (λ _. InRange (added.0 + first.0) (added.0 + last.0)) (λ r. range_tests (added.0 + first.0) (added.0 + last.0) ≡ Err r) }
 {
+    if target::is_clearly_wide(added, first, last) {
+        return Ok(());
+    }
     if gsdf::is_below_table(added, first) {
         return Err(Refusal::BlackBelowTable);
     }
@@ -66,11 +69,10 @@ fn test_range(added: Luminance, first: Luminance, last: Luminance) -> Result<Ind
     }
     let black = Luminance(added.0 + first.0);
     let white = Luminance(added.0 + last.0);
-    let indices = target::index_range(black, white);
-    if indices.is_too_narrow() {
+    if target::index_range(black, white).is_too_narrow() {
         return Err(Refusal::RangeTooNarrow);
     }
-    Ok(indices)
+    Ok(())
 }
 
 // Tests 2 to 10.
@@ -82,26 +84,27 @@ fn test_record(bytes: &[u8]) -> Result<TestedJob<'_>, Refusal>
     let light = light_of(job);
     let first = found.sweep.get(0);
     let last = found.sweep.get(found.sweep.len() - 1);
-    let indices = test_range(light.added, first.luminance, last.luminance)?;
-    Ok(TestedJob {
-        found,
-        job,
-        light,
-        indices,
-    })
+    test_range(light.added, first.luminance, last.luminance)?;
+    Ok(TestedJob { found, job, light })
 }
 
 impl TestedJob<'_> {
-    // The curve, at the front of an array, and the targets, in another. The arrays are the caller's, since a struct of both would be copied, and there is
-    // no heap.
-    fn draw<'c>(&self, levels: &'c mut [u32; 1024], targets: &mut [u32; 256]) -> &'c [u32]
+    // The curve, at the front of an array, its indices, and the targets, in another array. The arrays are the caller's, since a struct of both would be
+    // copied, and there is no heap.
+    fn draw<'c>(
+        &self,
+        levels: &'c mut [u32; 1024],
+        targets: &mut [u32; 256],
+    ) -> (&'c [u32], IndexRange)
         requires { SomeRecord self.now }
-        ensures { (bytes : List ℕ) → PassedTests bytes self.now → Drawn bytes self.now result.now targets.new }
+        ensures { (bytes : List ℕ) → PassedTests bytes self.now → Drawn bytes self.now result.0.now result.1 targets.new }
     {
         let top = record::max_ddl(self.job.settings.depth);
         curve::fill_curve(&self.found.sweep, top, self.light.added, levels);
-        self.indices.fill_targets(PValue(255), targets);
-        &levels[..=usize::from(top.0)]
+        let last = usize::from(top.0);
+        let indices = target::index_range(Luminance(levels[0]), Luminance(levels[last]));
+        indices.fill_targets(PValue(255), targets);
+        (&levels[..=last], indices)
     }
 }
 
@@ -115,12 +118,12 @@ pub fn nearest_table(bytes: &[u8], table: &mut [u16]) -> Result<NearestFigures, 
     let tested = test_record(bytes)?;
     let mut levels = [0u32; 1024];
     let mut targets = [0u32; 256];
-    let curve = tested.draw(&mut levels, &mut targets);
+    let (curve, indices) = tested.draw(&mut levels, &mut targets);
     let error = nearest::fill_table(curve, &targets, table);
     let first = tested.found.sweep.get(0);
     let mark = curve::room_mark(tested.light.room, first.luminance);
     Ok(NearestFigures {
-        indices: tested.indices,
+        indices,
         mark,
         error,
     })
@@ -143,7 +146,7 @@ pub fn even_table(bytes: &[u8], table: &mut [u16], work: &mut [u32]) -> Result<E
     let tested = test_record(bytes)?;
     let mut levels = [0u32; 1024];
     let mut targets = [0u32; 256];
-    let curve = tested.draw(&mut levels, &mut targets);
+    let (curve, _) = tested.draw(&mut levels, &mut targets);
     let problem = Problem {
         curve,
         targets: &targets,

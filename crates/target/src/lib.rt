@@ -28,8 +28,8 @@ pub fn index_range(black: Luminance, white: Luminance) -> IndexRange
 }
 
 // True only where tests 8, 9 and 10 pass, told by T(1), T(200), T(300) and T(1023) alone, as it can be of most displays; false says nothing.
-// Takes the first and the last reading, and the light added to them; a sum may need more than 32 bits. No operation calls it: it stands for callers in
-// Rust. Three arguments: a struct of them would be made to be taken apart in the call.
+// Takes the first and the last reading, and the light added to them; a sum may need more than 32 bits. Three arguments: a struct of them would be made to
+// be taken apart in the call.
 pub fn is_clearly_wide(added: Luminance, first: Luminance, last: Luminance) -> bool
     ensures { result ≡ clearly_wide (added.0 + first.0) (added.0 + last.0) }
 {

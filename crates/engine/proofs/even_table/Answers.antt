@@ -13,12 +13,12 @@ returns-in_err-tested c =
 
 pub invariant_of-problem : goal.invariant_of-problem
 invariant_of-problem c =
-    let drawn = c.draw-curve.ensures _ c.in_ok-tested.ensures in
+    let drawn = c.draw.ensures _ c.in_ok-tested.ensures in
     record { workable = curve_workable drawn _ (omega (arith, error_high drawn)) }
 
 pub returns-in_err-worst : goal.returns-in_err-worst
 returns-in_err-worst c =
-    rw (err_returned c.from_residual-in_err-worst.ensures.1) (even_filled _ _ _ (sym c.is_too_little.ensures ∙ c.if-is_too_little.false) (c.draw-curve.ensures _ c.in_ok-tested.ensures) c.fill_table.ensures (outcome_refused _ c.ok_or.ensures.value c.in_err-worst.was))
+    rw (err_returned c.from_residual-in_err-worst.ensures.1) (even_filled _ _ _ (sym c.is_too_little.ensures ∙ c.if-is_too_little.false) (c.draw.ensures _ c.in_ok-tested.ensures) c.fill_table.ensures (outcome_refused _ c.ok_or.ensures.value c.in_err-worst.was))
 
 pub returns : goal.returns
-returns c = even_filled _ _ _ (sym c.is_too_little.ensures ∙ c.if-is_too_little.false) (c.draw-curve.ensures _ c.in_ok-tested.ensures) c.fill_table.ensures (outcome_made _ c.ok_or.ensures.value c.in_ok-worst.was)
+returns c = even_filled _ _ _ (sym c.is_too_little.ensures ∙ c.if-is_too_little.false) (c.draw.ensures _ c.in_ok-tested.ensures) c.fill_table.ensures (outcome_made _ c.ok_or.ensures.value c.in_ok-worst.was)

@@ -19,16 +19,16 @@ returns-in_err-job c =
 pub test_range-requires : goal.test_range-requires
 test_range-requires c = in_order c.in_ok-found.ensures _ c.in_ok-job.was _ c.get-first.ensures c.get-last.ensures (omega (arith, c.in_ok-found.found.some, c.len.ensures))
 
-pub returns-in_err-indices : goal.returns-in_err-indices
-returns-in_err-indices c =
+pub returns-in_err-test_range : goal.returns-in_err-test_range
+returns-in_err-test_range c =
     let some = c.in_ok-found.found.some in
     let first = luminance_at _ 0 (omega (arith, some)) c.get-first.ensures 0 in
     let last = luminance_at _ (c.len.result - 1) (omega (arith, some, c.len.ensures)) c.get-last.ensures 0 in
-    rw (err_returned c.from_residual-in_err-indices.ensures.1) (sent_back c.in_ok-found.ensures _ c.in_ok-job.was c.len.ensures first last c.light_of-light.ensures c.test_range.ensures _ c.in_err-indices.was)
+    rw (err_returned c.from_residual-in_err-test_range.ensures.1) (sent_back c.in_ok-found.ensures _ c.in_ok-job.was c.len.ensures first last c.light_of-light.ensures _ c.in_err-test_range.ensures)
 
 pub returns : goal.returns
 returns c =
     let some = c.in_ok-found.found.some in
     let first = luminance_at _ 0 (omega (arith, some)) c.get-first.ensures 0 in
     let last = luminance_at _ (c.len.result - 1) (omega (arith, some, c.len.ensures)) c.get-last.ensures 0 in
-    passed_tests c.in_ok-found.ensures _ c.in_ok-job.was c.len.ensures first last c.light_of-light.ensures c.test_range.ensures _ c.in_ok-indices.was
+    passed_tests c.in_ok-found.ensures _ c.in_ok-job.was c.len.ensures first last c.light_of-light.ensures c.in_ok-test_range.ensures
