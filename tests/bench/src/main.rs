@@ -10,7 +10,7 @@ use std::collections::HashSet;
 use std::time::Instant;
 
 use compare::even;
-use compare::gsdf::{raw, Table};
+use compare::gsdf::raw;
 use compare::record::{self, RecordValues};
 use compare::yepidlaw::{Check, Nearest};
 
@@ -31,7 +31,6 @@ use side::Side;
 
 /// What the functions work on.
 struct Material {
-    table: Table,
     records: Records,
     growth: Growth,
     inputs: Inputs,
@@ -41,7 +40,7 @@ impl Material {
     fn new() -> Material {
         let records = Records::new();
         let inputs = Inputs::new(&records);
-        Material { table: Table::of_engine(), records, growth: Growth::new(), inputs }
+        Material { records, growth: Growth::new(), inputs }
     }
 }
 
@@ -96,14 +95,13 @@ fn digest_of_deviations(result: &Check, deviations: &[i32; 17]) -> u32 {
 /// Hands over each result of a case, in the order of its inputs, which keep to what the functions ask: see `cases`.
 #[inline(always)]
 fn each(case: &Case, side: Side, material: &Material, lent: &mut Lent, mut take: impl FnMut(u32)) {
-    let entries = material.table.entries();
     let bytes = |&place: &u32| &material.records.list[place as usize][..];
     let inputs = case.inputs.iter();
     match (case.function, side) {
-        (Function::Luminance, Side::Engine) => inputs.for_each(|&k| take(unsafe { raw::gsdf_luminance_in(entries.as_ptr(), k) })),
-        (Function::Luminance, _) => inputs.for_each(|&k| take(in_rust::gsdf::luminance_in(entries, k))),
-        (Function::Index, Side::Engine) => inputs.for_each(|&l| take(unsafe { raw::gsdf_index_in(entries.as_ptr(), l) })),
-        (Function::Index, _) => inputs.for_each(|&l| take(in_rust::gsdf::index_in(entries, l))),
+        (Function::Luminance, Side::Engine) => inputs.for_each(|&k| take(unsafe { raw::gsdf_luminance_of(k) })),
+        (Function::Luminance, _) => inputs.for_each(|&k| take(in_rust::gsdf::luminance_of(k))),
+        (Function::Index, Side::Engine) => inputs.for_each(|&l| take(unsafe { raw::gsdf_index_of(l) })),
+        (Function::Index, _) => inputs.for_each(|&l| take(in_rust::gsdf::index_of(l))),
         (Function::Record, Side::Engine) => inputs.for_each(|place| take(digest(&record::read(bytes(place))))),
         (Function::Record, _) => inputs.for_each(|place| take(digest(&in_rust::record::read(bytes(place))))),
         (Function::Nearest(_), side) => inputs.for_each(|place| {

@@ -1,4 +1,4 @@
-//! The display function: crate `gsdf` through `gsdf_values` and `gsdf_lent`.
+//! The display function: crate `gsdf` through `gsdf_values`.
 
 /// The functions as they are, with a `requires` each.
 pub mod raw {
@@ -6,24 +6,14 @@ pub mod raw {
         pub fn gsdf_table_b1(table: *mut u32);
         pub fn gsdf_luminance_of(k: u32) -> u32;
         pub fn gsdf_index_of(l: u32) -> u32;
-        pub fn gsdf_luminance_in(table: *const u32, k: u32) -> u32;
-        pub fn gsdf_index_in(table: *const u32, l: u32) -> u32;
     }
 }
 
-/// The engine's Table B-1, for lending; only `of_engine` makes one.
-pub struct Table([u32; 1023]);
-
-impl Table {
-    pub fn of_engine() -> Table {
-        let mut table = [0; 1023];
-        unsafe { raw::gsdf_table_b1(table.as_mut_ptr()) };
-        Table(table)
-    }
-
-    pub fn entries(&self) -> &[u32; 1023] {
-        &self.0
-    }
+/// The engine's Table B-1.
+pub fn table_b1() -> [u32; 1023] {
+    let mut table = [0; 1023];
+    unsafe { raw::gsdf_table_b1(table.as_mut_ptr()) };
+    table
 }
 
 fn is_index(k: u32) -> bool {
@@ -42,14 +32,4 @@ pub fn luminance_of(k: u32) -> u32 {
 pub fn index_of(l: u32) -> u32 {
     assert!(in_table(l));
     unsafe { raw::gsdf_index_of(l) }
-}
-
-pub fn luminance_in(table: &Table, k: u32) -> u32 {
-    assert!(is_index(k));
-    unsafe { raw::gsdf_luminance_in(table.0.as_ptr(), k) }
-}
-
-pub fn index_in(table: &Table, l: u32) -> u32 {
-    assert!(in_table(l));
-    unsafe { raw::gsdf_index_in(table.0.as_ptr(), l) }
 }

@@ -5,39 +5,34 @@ use reference::gsdf::{Gsdf, FIRST_INDEX, LAST_INDEX};
 use crate::comparison::Comparison;
 
 /// The engine's constant against the data file.
-fn entries(reference: &Gsdf, table: &gsdf::Table) -> bool {
+fn entries(reference: &Gsdf) -> bool {
     let mut all = Comparison::new("Table B-1");
-    for (j, (&got, &expected)) in (1..).zip(table.entries().iter().zip(reference.entries())) {
+    for (j, (got, &expected)) in (1..).zip(gsdf::table_b1().into_iter().zip(reference.entries())) {
         all.equal(j, got, expected);
     }
     all.ended(1023)
 }
 
-/// The luminance of every index, with the engine's own table and with a lent one.
-fn luminances(reference: &Gsdf, table: &gsdf::Table) -> [bool; 2] {
-    let mut own = Comparison::new("luminance of an index");
-    let mut lent = Comparison::new("luminance of an index, table lent");
+/// The luminance of every index.
+fn luminances(reference: &Gsdf) -> bool {
+    let mut all = Comparison::new("luminance of an index");
     for k in FIRST_INDEX..=LAST_INDEX {
-        let expected = reference.luminance(k);
-        own.equal(k, gsdf::luminance_of(k as u32), expected);
-        lent.equal(k, gsdf::luminance_in(table, k as u32), expected);
+        all.equal(k, gsdf::luminance_of(k as u32), reference.luminance(k));
     }
-    [own.ended(102_201), lent.ended(102_201)]
+    all.ended(102_201)
 }
 
 /// The index of every luminance of the table: as the luminance rises by one unit, the reference's index follows it upward.
-fn indices(reference: &Gsdf, table: &gsdf::Table) -> [bool; 2] {
-    let mut own = Comparison::new("index of a luminance");
-    let mut lent = Comparison::new("index of a luminance, table lent");
+fn indices(reference: &Gsdf) -> bool {
+    let mut all = Comparison::new("index of a luminance");
     let mut expected = FIRST_INDEX;
     for l in 500..=39_934_040 {
         while expected < LAST_INDEX && reference.luminance(expected + 1) <= l {
             expected += 1;
         }
-        own.equal(l, gsdf::index_of(l as u32), expected);
-        lent.equal(l, gsdf::index_in(table, l as u32), expected);
+        all.equal(l, gsdf::index_of(l as u32), expected);
     }
-    [own.ended(39_933_541), lent.ended(39_933_541)]
+    all.ended(39_933_541)
 }
 
 /// The same by the reference's full scan, at each entry of the table, at its neighbours and between.
@@ -68,10 +63,7 @@ fn marked_examples(reference: &Gsdf) -> [bool; 2] {
 }
 
 pub fn results(reference: &Gsdf) -> Vec<bool> {
-    let table = gsdf::Table::of_engine();
-    let mut results = vec![entries(reference, &table)];
-    results.extend(luminances(reference, &table));
-    results.extend(indices(reference, &table));
+    let mut results = vec![entries(reference), luminances(reference), indices(reference)];
     results.extend(scanned_indices(reference));
     results.extend(marked_examples(reference));
     results

@@ -1,7 +1,7 @@
 //! The contrast check.
 use compare::yepidlaw::Check;
 
-use super::gsdf::{index, luminance, TABLE_B1};
+use super::gsdf::{index, luminance};
 use super::job::{added_of_sound, shown, LEAST_RANGE};
 use super::record;
 
@@ -20,11 +20,11 @@ fn patches(check: &[u32; PATCHES], added: u32) -> Option<[u32; PATCHES]> {
 /// One walk over the pairs; whether all are within one part in `parts`.
 fn fill(patches: &[u32; PATCHES], first: u32, range: u32, parts: i64, deviations: &mut [i32]) -> bool {
     let mut p = i64::from(patches[0]);
-    let mut c = i64::from(luminance(&TABLE_B1, first));
+    let mut c = i64::from(luminance(first));
     let mut passes = true;
     for (i, deviation) in (1..).zip(deviations) {
         let s = i64::from(patches[i as usize]);
-        let h = i64::from(luminance(&TABLE_B1, first + range * i / 17));
+        let h = i64::from(luminance(first + range * i / 17));
         let y = (h - c) * (s + p);
         let off = (s - p) * (h + c) - y;
         *deviation = (1_000 * off).div_euclid(y) as i32;
@@ -44,7 +44,7 @@ fn judged(bytes: &[u8], deviations: &mut [i32]) -> Result<u32, u32> {
         return Ok(0);
     }
     let patches = patches(&values.check, added).ok_or(12u32)?;
-    let [first, last] = [patches[0], patches[PAIRS]].map(|patch| index(&TABLE_B1, patch));
+    let [first, last] = [patches[0], patches[PAIRS]].map(index);
     if last < first + LEAST_RANGE {
         return Err(13);
     }

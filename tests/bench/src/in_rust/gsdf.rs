@@ -1,32 +1,30 @@
-//! G and J, with Table B-1 lent.
+//! G and J.
 
-pub type TableB1 = [u32; 1023];
+static TABLE_B1: [u32; 1023] = include!(concat!(env!("OUT_DIR"), "/table_b1.rs"));
 
-pub static TABLE_B1: TableB1 = include!(concat!(env!("OUT_DIR"), "/table_b1.rs"));
-
-fn jnd_luminance(table: &TableB1, j: u32) -> u32 {
-    table[(j - 1) as usize]
+fn jnd_luminance(j: u32) -> u32 {
+    TABLE_B1[(j - 1) as usize]
 }
 
 #[inline(always)]
-pub fn luminance(table: &TableB1, k: u32) -> u32 {
+pub fn luminance(k: u32) -> u32 {
     let j = k / 100;
     let hundredths = k % 100;
-    let low = jnd_luminance(table, j);
+    let low = jnd_luminance(j);
     if hundredths == 0 {
         return low;
     }
-    let difference = jnd_luminance(table, j + 1) - low;
+    let difference = jnd_luminance(j + 1) - low;
     low + difference * hundredths / 100
 }
 
 #[inline(always)]
-pub fn index(table: &TableB1, l: u32) -> u32 {
+pub fn index(l: u32) -> u32 {
     let mut j = 1;
     let mut width = 1023;
     while 1 < width {
         let half = width / 2;
-        if jnd_luminance(table, j + half) <= l {
+        if jnd_luminance(j + half) <= l {
             j += half;
         }
         width -= half;
@@ -34,17 +32,17 @@ pub fn index(table: &TableB1, l: u32) -> u32 {
     if j == 1023 {
         return 102_300;
     }
-    let low = jnd_luminance(table, j);
-    let difference = jnd_luminance(table, j + 1) - low;
+    let low = jnd_luminance(j);
+    let difference = jnd_luminance(j + 1) - low;
     100 * j + (100 * (l - low) + 99) / difference
 }
 
 #[inline(never)]
-pub extern "C" fn luminance_in(table: &TableB1, k: u32) -> u32 {
-    luminance(table, k)
+pub extern "C" fn luminance_of(k: u32) -> u32 {
+    luminance(k)
 }
 
 #[inline(never)]
-pub extern "C" fn index_in(table: &TableB1, l: u32) -> u32 {
-    index(table, l)
+pub extern "C" fn index_of(l: u32) -> u32 {
+    index(l)
 }

@@ -1,7 +1,7 @@
 //! A sound job, its curve and its targets.
 use compare::record::RecordValues;
 
-use super::gsdf::{index, luminance, TABLE_B1};
+use super::gsdf::{index, luminance};
 
 pub const VALUES: usize = 256;
 const LEVELS: usize = 1024;
@@ -69,7 +69,7 @@ impl Frame {
         if BRIGHTEST < white {
             return Err(9);
         }
-        let (jlo, jhi) = (index(&TABLE_B1, black as u32), index(&TABLE_B1, white as u32));
+        let (jlo, jhi) = (index(black as u32), index(white as u32));
         if jhi - jlo < LEAST_RANGE {
             return Err(10);
         }
@@ -83,7 +83,7 @@ impl Frame {
     pub fn targets(&self) -> Targets {
         let mut targets = [0; VALUES];
         for (p, target) in (0..).zip(&mut targets) {
-            *target = luminance(&TABLE_B1, self.jlo + self.range() * p / 255);
+            *target = luminance(self.jlo + self.range() * p / 255);
         }
         targets
     }
