@@ -1,4 +1,5 @@
 // The even table of any curve and any targets through the C ABI, on bare numbers: for the comparison by running and for the benchmark.
+// `starts`, `ends` and `work` are worked in.
 #![tactic(auto)]
 
 ghost use Rattle.std.specs.Prelude.{◌≡◌};
