@@ -52,8 +52,8 @@ fn light_of(job: Job) -> Light
     Light { room, added }
 }
 
-// Tests 8, 9 and 10, by the first and the last reading and the light added to them. Of most displays they look at four entries of Table B-1 and search for
-// none: a check needs no index of its display.
+// Tests 8, 9 and 10, by the first and the last reading and the light added to them. Most displays pass by comparisons, without a search in Table B-1; so
+// no indices are handed on, and a check needs none.
 fn test_range(added: Luminance, first: Luminance, last: Luminance) -> Result<(), Refusal>
     requires { first.0 ≤ last.0 }
     ensures { MatchResult result (λ _. InRange (added.0 + first.0) (added.0 + last.0)) (λ r. range_tests (added.0 + first.0) (added.0 + last.0) ≡ Err r) }
