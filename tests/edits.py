@@ -43,6 +43,15 @@ def edits_of(kind):
             yield crate, name, read('crates', crate, kind, name)
 
 
+def chosen(kind, names):
+    """The same of the crates that are named, or of all."""
+    edits = [edit for edit in edits_of(kind) if not names or edit[0] in names]
+    without = sorted(set(names) - {crate for crate, _, _ in edits})
+    if without:
+        raise SystemExit('there is no edit in ' + ', '.join('crates/%s/%s' % (name, kind) for name in without))
+    return edits
+
+
 def form_fault(name, edit):
     """What is wrong with an edit's own text; None where nothing is."""
     lines = edit.split('\n')
@@ -180,7 +189,7 @@ def refusal_fault(crate, edit, outcome, log):
 
 def hold_refusals(tally, repository, kind, crates):
     """Holds each edit of the folders crates/NAME/KIND to what its line 'refused:' says; they are the must-fail edits of the repository's crates."""
-    edits = [edit for edit in edits_of(kind) if not crates or edit[0] in crates]
+    edits = chosen(kind, crates)
     outcomes, said = tried(repository, sorted({crate for crate, _, _ in edits}))
     if not outcomes:
         print(said)

@@ -27,7 +27,7 @@ static const char *const MEANINGS[] = {
     "the darkest and the brightest level are fewer than 100 JND apart",
     "some P-value has no drive level within the allowed error",
     "a check reading is outside Table B-1",
-    "the first and the last check reading are fewer than 100 JND apart",
+    "the first and the last check reading are fewer than 100 JND apart, or fall",
 };
 
 /* All that is lent to the three operations, and what they gave. */

@@ -55,7 +55,7 @@ impl fmt::Display for Refusal {
             10 => "the darkest and the brightest level are fewer than 100 JND apart",
             11 => "some P-value has no drive level within the allowed error",
             12 => "a check reading is outside Table B-1",
-            _ => "the first and the last check reading are fewer than 100 JND apart",
+            _ => "the first and the last check reading are fewer than 100 JND apart, or fall",
         };
         write!(f, "refused {}, {meaning}", self.0)
     }

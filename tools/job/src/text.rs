@@ -19,6 +19,7 @@ const EXAMPLES: [(&str, &str); 8] = [
 
 /// The P-values of two neighbouring patches differ by so much.
 const PATCH_STEP: usize = 15;
+const LAST_PATCH: usize = 255;
 
 /// What is wrong with a line, or with the text as a whole.
 #[derive(Clone, Debug, PartialEq)]
@@ -54,8 +55,11 @@ fn example(word: &str) -> &'static str {
 fn values<'a, const N: usize>(words: &[&'a str]) -> Result<[&'a str; N], String> {
     let values = &words[1..];
     match values.get(N) {
-        Some(extra) => Err(format!("'{extra}' is too much: write the line as '{}'", example(words[0]))),
-        None => values.try_into().map_err(|_| format!("a value is missing: write the line as '{}'", example(words[0]))),
+        Some(extra) => {
+            let extra = values.iter().find(|word| ["=", ":"].contains(*word)).unwrap_or(extra);
+            Err(format!("'{extra}' is too much: write the line as in '{}'", example(words[0])))
+        }
+        None => values.try_into().map_err(|_| format!("a value is missing: write the line as in '{}'", example(words[0]))),
     }
 }
 
@@ -68,7 +72,7 @@ fn short(quantity: &Quantity, word: &str, any: bool) -> Result<u16, String> {
 fn unknown(word: &str) -> String {
     let plain = word.trim_end_matches(|end| end == ':' || end == '=').to_lowercase().replace('_', "-");
     match EXAMPLES.iter().find(|example| example.0 == plain) {
-        Some(example) => format!("'{word}' is not known: write the line as '{}'", example.1),
+        Some(example) => format!("'{word}' is not known: write the line as in '{}'", example.1),
         None => {
             let names: Vec<&str> = EXAMPLES.iter().map(|example| example.0).collect();
             format!("'{word}' is not known: a line begins with {} or {}", names[..7].join(", "), names[7])
@@ -145,9 +149,10 @@ impl Lines {
         })
     }
 
-    /// Patches in another order than that of their P-values, or with one left out.
-    fn patches(&self) -> impl Iterator<Item = Fault> + '_ {
-        let expected = (0..).step_by(PATCH_STEP);
+    /// Patches in another order than that of their P-values, or with one left out. Of those that are too many their number is said, or with `any` nothing.
+    fn patches(&self, any: bool) -> impl Iterator<Item = Fault> + '_ {
+        let last = if any { usize::MAX } else { LAST_PATCH };
+        let expected = (0..=last).step_by(PATCH_STEP);
         self.check.iter().zip(expected).filter(|(patch, expected)| patch.1 != *expected).take(1).map(|(patch, expected)| {
             let what = format!("patch {} stands where patch {expected} belongs: the patches are 0, 15, 30 and so on to 255", patch.1);
             Fault { line: Some(patch.0), what }
@@ -156,7 +161,7 @@ impl Lines {
 
     /// What is wrong with the lines together, where each is right by itself.
     fn faults(&self, any: bool) -> Vec<Fault> {
-        let mut faults: Vec<Fault> = self.missing().chain(self.counts(any)).chain(self.patches()).collect();
+        let mut faults: Vec<Fault> = self.missing().chain(self.counts(any)).chain(self.patches(any)).collect();
         if !any && self.settings[0].is_some() && !self.sweep.is_empty() {
             faults.extend(self.job().sweep_faults().map(|fault| Fault { line: self.line_of(fault.item), what: fault.what }));
         }
