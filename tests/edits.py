@@ -1,4 +1,4 @@
-"""The edits that the prover must refuse, for the two tests that hold them to it.
+"""The edits that the prover must refuse, for the tests that hold them to it.
 
 An edit has a comment line, a line 'refused: WHERE FACT' and replacements as rt reads them, 'file:', 'old:' and 'new:'. WHERE is the function whose contract
 is not met, a method by its own name, or the module of proofs/ whose law does not hold, and FACT the goal, or the law or lemma: the error that counts must be there.
@@ -35,20 +35,16 @@ GOAL = r'note: (src/\S+?):(\d+):\d+: (?:it is not proved that |`search` found no
 DECLARES = r'\b(?:fn|struct|enum|impl|trait|type|const|static|mod|use|ghost|requires|ensures|pub)\b|^ *#'
 
 
-def edits_of(kind):
-    """The crate, the file's name and the text of all that stands in the folders crates/NAME/KIND."""
+def edits_of(names=()):
+    """The crate, the file's name and the text of all that stands in the folders crates/NAME/must-fail: of the crates that are named, or of all."""
+    edits = []
     for crate in sorted(os.listdir(CRATES)):
-        folder = os.path.join(CRATES, crate, kind)
-        for name in sorted(os.listdir(folder)) if os.path.isdir(folder) else ():
-            yield crate, name, read('crates', crate, kind, name)
-
-
-def chosen(kind, names):
-    """The same of the crates that are named, or of all."""
-    edits = [edit for edit in edits_of(kind) if not names or edit[0] in names]
+        folder = os.path.join(CRATES, crate, 'must-fail')
+        for name in sorted(os.listdir(folder)) if os.path.isdir(folder) and (not names or crate in names) else ():
+            edits.append((crate, name, read('crates', crate, 'must-fail', name)))
     without = sorted(set(names) - {crate for crate, _, _ in edits})
     if without:
-        raise SystemExit('there is no edit in ' + ', '.join('crates/%s/%s' % (name, kind) for name in without))
+        raise SystemExit('there is no edit in ' + ', '.join('crates/%s/must-fail' % name for name in without))
     return edits
 
 
@@ -83,19 +79,19 @@ def apply(edit, folder):
     return None if pairs else 'it replaces nothing'
 
 
-def copy_of(repository, to, edits=None):
-    """A copy of what rt reads of a repository, with the edits of the folders crates/NAME/EDITS as the must-fail edits where these are named, and with what
-    earlier checks kept: what they proved by links, since a check puts a new file in the place of one that it does not find current."""
+def copy_of_repository(to):
+    """A copy of what rt reads of the repository but the edits, and of what earlier checks kept: what they proved by links, since a check puts a new file in the
+    place of one that it does not find current."""
 
     def link_or_copy(file, copy):
         (os.link if file.endswith('.oantt') or '/out/rlib/' in file else shutil.copy2)(file, copy)
 
-    shutil.copy(os.path.join(repository, 'crates.txt'), to)
-    for crate in os.listdir(os.path.join(repository, 'crates')):
-        for part in ('src', 'specs', 'proofs', 'out/rlib', 'out/incremental', edits):
-            folder = os.path.join(repository, 'crates', crate, part or '')
-            if part and os.path.isdir(folder):
-                shutil.copytree(folder, os.path.join(to, 'crates', crate, 'must-fail' if part == edits else part), copy_function=link_or_copy)
+    shutil.copy(os.path.join(ROOT, 'crates.txt'), to)
+    for crate in os.listdir(CRATES):
+        for part in ('src', 'specs', 'proofs', 'out/rlib', 'out/incremental'):
+            folder = os.path.join(CRATES, crate, part)
+            if os.path.isdir(folder):
+                shutil.copytree(folder, os.path.join(to, 'crates', crate, part), copy_function=link_or_copy)
 
 
 def rt(folder, *words):
@@ -110,10 +106,10 @@ def tried(repository, crates):
     return {(crate, name): outcome for crate, name, outcome in TRIED.findall(said)}, said
 
 
-def log_of(repository, crate, edit):
+def log_of(crate, edit):
     """What the prover says of a crate with an edit: the log, or what kept it from the prover."""
     with tempfile.TemporaryDirectory() as copy:
-        copy_of(repository, copy)
+        copy_of_repository(copy)
         folder = os.path.join(copy, 'crates', crate)
         wrong = apply(edit, folder)
         if wrong:
@@ -187,21 +183,24 @@ def refusal_fault(crate, edit, outcome, log):
     return None, error.splitlines()[0][:160]
 
 
-def hold_refusals(tally, repository, kind, crates):
-    """Holds each edit of the folders crates/NAME/KIND to what its line 'refused:' says; they are the must-fail edits of the repository's crates."""
-    edits = chosen(kind, crates)
-    outcomes, said = tried(repository, sorted({crate for crate, _, _ in edits}))
-    if not outcomes:
-        print(said)
+def hold_refusals(tally, edits, outcomes):
+    """Holds each of these edits to what its line 'refused:' says, by what rt said of them, and returns the crates of those that were checked again."""
+    again = set()
 
     def held(found):
         crate, name, edit = found
+
+        def log():
+            again.add(crate)
+            return log_of(crate, edit)
+
         wrong = form_fault(name, edit)
-        return (wrong, '') if wrong else refusal_fault(crate, edit, outcomes.get((crate, name), ''), lambda: log_of(repository, crate, edit))
+        return (wrong, '') if wrong else refusal_fault(crate, edit, outcomes.get((crate, name), ''), log)
 
     with concurrent.futures.ThreadPoolExecutor(JOBS) as pool:
         for (crate, name, _), (wrong, says) in zip(edits, pool.map(held, edits)):
             tally.hold('%s/%s' % (crate, name), wrong, says)
+    return sorted(again)
 
 
 class Tally:
