@@ -1,6 +1,7 @@
 -- From the sections that are taken off one by one to what the record's reader promises.
 -- Assumes nothing.
-use Prim.Native.Nat.{ℕ, ◌-◌, ◌*◌, ◌/◌, ◌≤◌}
+use Prim.Native.Nat.{ℕ, ◌+◌, ◌-◌, ◌*◌, ◌/◌, ◌≤◌}
+use borrow.Author.Tests.{le-ltb}
 use mathlib.Core.Path.{◌≡◌, refl, sym, ap, ◌∙◌}
 use mathlib.Core.List.{List, map, map-map}
 use mathlib.Core.Bool.{true}
@@ -25,9 +26,16 @@ use Rattle.record.proofs.Parts.{lists}
 pub taken : (k : Section) (s : List ℕ) {n w m : ℕ} {front found more : List ℕ} → 2 ≤ length s → n ≡ word 0 s → w ≡ width k → permitted k n ≡ true → n * w ≤ length (take (length s - 2) (drop 2 s))
     → front ≡ take (n * w) (take (length s - 2) (drop 2 s)) → more ≡ drop (n * w) (take (length s - 2) (drop 2 s)) → m ≡ n → found ≡ front → Taken k s m found more
 unfolding count_of
-taken k s h e f p l a b c d =
+taken k s {n} {w} {m} h e f p l a b c d =
     let r = take_rest s 2 in
-    grind (arith, length-drop 2 s, drop-drop {A = ℕ})
+    let q : 2 + word 0 s * width k ≤ length s = rw (← e, ← f) (omega (arith, rw r at l, length-drop 2 s)) in
+    let z : m ≡ word 0 s = c ∙ e in
+    record {
+      count = rw (le-ltb _ _ h, rw e at p, le-ltb _ _ q, z);
+      may = rw c (rw p tt);
+      items = d ∙ a ∙ rw (r, f, c);
+      rest = b ∙ rw (r, f, c, drop-drop);
+    }
 
 -- the number of items in so many bytes
 width_times : (k : Section) (n : ℕ) {w l : ℕ} → w ≡ width k → l ≡ n * w → l / w ≡ n

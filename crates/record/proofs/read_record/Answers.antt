@@ -1,8 +1,7 @@
 use Rattle.laws.proofs.Cases.{err_returned}
-use Rattle.std.proofs.Common.{arith, refl, map, ℕ, ◌≡◌, ◌≤◌, ◌<◌, List, length}
+use Rattle.std.proofs.Common.{arith, refl, map, ℕ, ◌≡◌, ◌≤◌, List, length}
 use Rattle.std.specs.Prelude.{T}
 use Rattle.std.proofs.lemmas.List.{length-map}
-use Rattle.record.specs.Bytes.{word, long}
 use Rattle.record.specs.Sections.{permitted, layout_of, sections}
 use Rattle.record.specs.Reader.{TakenAs}
 use Rattle.record.specs.declared.Section.{Section}
