@@ -36,7 +36,7 @@ unfolding step_deviation
 deviation_top f g n h a b = grind (arith, mul-le-mul_left (1000 * n) h)
 
 module _ (x : Given) (u : Usable x) (k p : ℕ) (l : suc p < length x.targets) where
-  step_rises : 0 < target_step x p
+  pub step_rises : 0 < target_step x p
   step_rises = omega (arith, u.targets_rise p l)
 
   -- the test on a step, by its least and its largest luminance

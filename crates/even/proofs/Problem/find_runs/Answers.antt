@@ -2,6 +2,7 @@
 use Prim.Native.Nat.{◌+◌}
 use native.Mathlib.Omega.{arith}
 use Rattle.even.proofs.Bound.{level, found_none, to_fits, finding_first, run_on, climbs, finding_more, found_all}
+use Rattle.even.proofs.Steps.{step_rises}
 use Rattle.even.proofs.Problem.find_runs.Goals as goal
 
 pub returns-in_err-run : goal.returns-in_err-run
@@ -52,3 +53,6 @@ loop-p-preserved c =
 
 pub returns : goal.returns
 returns c = found_all c.args.self.now.workable c.requires c.loop-p.invariant c.loop-p-test.false
+
+pub step_deviation-requires : goal.step_deviation-requires
+step_deviation-requires c = rw c.wanted_step.ensures (step_rises _ c.args.self.now.workable.usable 0 _ (omega arith))
