@@ -1,4 +1,6 @@
 -- The loop's invariant is the record `Filling`. Assumes nothing.
+use mathlib.Core.Path.{◌≡◌}
+use Prim.Native.Nat.{◌*◌, min, max}
 use native.Mathlib.Omega.{arith}
 use Rattle.reach.proofs.Filling.{filling_none, filling_more}
 use Rattle.reach.proofs.fill_row.Goals as goal
@@ -10,3 +12,8 @@ pub loop-i-preserved : goal.loop-i-preserved
 loop-i-preserved c =
     let at = c in
     filling_more at.requires at.loop-i.invariant (omega arith) (omega arith) at.max.ensures at.min.ensures at.fill_word-word.ensures
+
+pub returns : goal.returns
+returns c =
+    let all : min (max c.args.run.from (c.loop-i.i * 32)) c.args.run.to ≡ c.args.run.to = omega arith in
+    rw all at c.loop-i.invariant.filled
