@@ -30,3 +30,7 @@ loop-self-preserved g c =
           (take_written before.size room c.in_ok-n.n before.bytes c.read.new.buf (omega (arith, c.loop-self.invariant.fits, c.loop-self.invariant.whole)) read)
           (Consumes-trans _ _ _ _ _ c.loop-self.invariant.taken c.in_ok-n.ensures.bytes.0);
     }
+
+pub returns-after-loop-self-clause-whole : goal.returns-after-loop-self-clause-whole
+returns-after-loop-self-clause-whole g c =
+    λ h. absurd (omega (arith, h, c.loop-self-test.false, c.loop-self.invariant.whole, length-take c.loop-self.self-inside.size c.loop-self.self-inside.bytes))
