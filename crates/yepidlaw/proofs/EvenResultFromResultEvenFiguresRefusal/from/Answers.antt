@@ -1,0 +1,4 @@
+use Rattle.yepidlaw.proofs.EvenResultFromResultEvenFiguresRefusal.from.Goals as goal
+
+pub returns-in-Err : goal.returns-in-Err
+returns-in-Err c = rw c.in-Err.is (cc)
