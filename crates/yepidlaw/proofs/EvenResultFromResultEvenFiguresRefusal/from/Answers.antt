@@ -2,3 +2,6 @@ use Rattle.yepidlaw.proofs.EvenResultFromResultEvenFiguresRefusal.from.Goals as 
 
 pub returns-in-Err : goal.returns-in-Err
 returns-in-Err c = rw c.in-Err.is (cc)
+
+pub returns-in-Ok : goal.returns-in-Ok
+returns-in-Ok c = rw c.in-Ok.is (cc)
