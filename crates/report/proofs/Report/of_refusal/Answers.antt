@@ -9,3 +9,6 @@ put_number-requires c = rw (c.put_text.ensures, c.new-report.ensures) (simp leng
 
 pub returns-clause-fits : goal.returns-clause-fits
 returns-clause-fits c = rw (c.put_number.ensures, c.put_text.ensures, c.new-report.ensures) (simp length-append (omega (arith, decimal_fits 9 c.from-2.result (omega arith))))
+
+pub returns-clause-line : goal.returns-clause-line
+returns-clause-line c = rw (c.put_number.ensures, c.from-2.ensures, c.from.ensures, c.put_text.ensures, c.new-report.ensures)
