@@ -1,0 +1,7 @@
+use Rattle.even_values.proofs.EvenNumbersFromOptionU64.from.Goals as goal
+
+pub returns-in-Some : goal.returns-in-Some
+returns-in-Some c = rw c.in-Some.is
+
+pub returns-in-None : goal.returns-in-None
+returns-in-None c = rw c.in-None.is
