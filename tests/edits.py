@@ -8,7 +8,6 @@ the answer is read, and does not prove its goal. Where it is at a goal without a
 the answer may only have lost its name: then the first error of the whole log counts. A function without any answer has none to lose, so that an edit of bodies is
 not checked again where it is refused in one.
 """
-import concurrent.futures
 import glob
 import os
 import re
@@ -163,44 +162,32 @@ def unanswered(crate, edit, error):
     return (function, goal) if function and not answers else None
 
 
+def is_checked_again(crate, edit, outcome):
+    """Whether an edit is refused at a goal whose answer may have lost its name."""
+    error = outcome[len(REFUSED) :]
+    return bool(outcome.startswith(REFUSED) and re.match(GOAL, error) and not unanswered(crate, edit, error))
+
+
 def refusal_fault(crate, edit, outcome, log):
     """What is wrong with an edit's refusal, by what rt said of it; log gives what the prover said. None where nothing is wrong, and the first error."""
     named = [tuple(line.split()[-2:]) for line in edit.split('\n') if re.match(r'(# )?refused: \S+ \S+$', line)]
     if not outcome.startswith(REFUSED):
         return outcome or 'it was not tried', ''
     error = whole = outcome[len(REFUSED) :]
-    at = unanswered(crate, edit, error) if re.match(GOAL, error) else None
-    if re.match(GOAL, error) and not at:
+    at = None
+    if is_checked_again(crate, edit, outcome):
         whole, wrong = log()
         if wrong:
             return wrong, ''
         error = first_error(whole)
+    elif re.match(GOAL, error):
+        at = unanswered(crate, edit, error)
     if not error or UNFIT.search(error):
         return 'the proof no longer fits: ' + error, ''
     at = at or place(error, whole)
     if [at] != named:
         return 'refused at %s and not at %s: %s' % (at, named, error), ''
     return None, error.splitlines()[0][:160]
-
-
-def hold_refusals(tally, edits, outcomes):
-    """Holds each of these edits to what its line 'refused:' says, by what rt said of them, and returns the crates of those that were checked again."""
-    again = set()
-
-    def held(found):
-        crate, name, edit = found
-
-        def log():
-            again.add(crate)
-            return log_of(crate, edit)
-
-        wrong = form_fault(name, edit)
-        return (wrong, '') if wrong else refusal_fault(crate, edit, outcomes.get((crate, name), ''), log)
-
-    with concurrent.futures.ThreadPoolExecutor(JOBS) as pool:
-        for (crate, name, _), (wrong, says) in zip(edits, pool.map(held, edits)):
-            tally.hold('%s/%s' % (crate, name), wrong, says)
-    return sorted(again)
 
 
 class Tally:
