@@ -1,4 +1,4 @@
-//! The even table, by the least worst step of the rest of a table from each level on, over all pairs of levels.
+//! The even table, by the least worst step of the rest of a table from each level on, over pairs of levels.
 
 #[derive(Clone, Debug, PartialEq)]
 pub struct Table {
@@ -52,11 +52,15 @@ impl Problem<'_> {
 
     /// The least worst step of the rest of a table from level d at p on, where those of the next P-value are known.
     fn least_rest(&self, p: usize, d: usize, next: &[u64]) -> u64 {
+        let wanted = self.targets[p + 1] - self.targets[p];
         let mut least = NO_TABLE;
         for e in d..self.curve.len() {
-            if next[e] < least {
-                least = least.min(next[e].max(self.step_deviation(p, d, e)));
+            let deviation = self.step_deviation(p, d, e);
+            // From here on a higher level's step is no less off, since the curve never falls.
+            if wanted <= self.curve[e] - self.curve[d] && least <= deviation {
+                break;
             }
+            least = least.min(next[e].max(deviation));
         }
         least
     }
