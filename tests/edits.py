@@ -5,10 +5,8 @@ is not met, a method by its own name, or the module of proofs/ whose law does no
 
 That is the one which rt says of an edit, the first that is more than a name that the proofs no longer find. Where it is at an answer or a law, this is enough:
 the answer is read, and does not prove its goal. Where it is at a goal without an answer, the edit is made in a copy of the repository and checked there, since
-the answer may only have lost its name: then the first error of the whole log counts. A function without any answer has none to lose, so that an edit of bodies is
-not checked again where it is refused in one.
+the answer may only have lost its name: then the first error of the whole log counts.
 """
-import glob
 import os
 import re
 import shutil
@@ -30,8 +28,6 @@ UNFIT = re.compile(
 )
 PROOF = r'(?:\./)?proofs/(?:(?:[\w+]+/)*([\w+]+)/(?:Answers|Invariants)|(\w+))\.antt:\d+:\d+: error: `([^`]+)`:'
 GOAL = r'note: (src/\S+?):(\d+):\d+: (?:it is not proved that |`search` found no proof )'
-# a line of src/ on which more stands than a part of a body, so that laws may name what it says
-DECLARES = r'\b(?:fn|struct|enum|impl|trait|type|const|static|mod|use|ghost|requires|ensures|pub)\b|^ *#'
 
 
 def edits_of(names=()):
@@ -143,48 +139,25 @@ def place(error, log):
     return (function.group(1), goal.group(3)) if function else None
 
 
-def function_at(source, line):
-    """The function that a line of a source stands in, or whose attribute it is."""
-    lines = source.split('\n')
-    while lines[line - 1].lstrip().startswith('#['):
-        line += 1
-    found = [re.match(r' *(?:pub )?(?:extern "C" )?fn (\w+)', text) for text in lines[:line]]
-    return ([None] + [function.group(1) for function in found if function])[-1]
+def has_no_answer(outcome):
+    """Whether an edit is refused at a goal without an answer."""
+    return bool(outcome.startswith(REFUSED) and re.match(GOAL, outcome[len(REFUSED) :]))
 
 
-def unanswered(crate, edit, error):
-    """Where an edit is refused at a goal without an answer, if no answer can have lost its name there; else None. Lines stand where they stood."""
-    file, at, goal = re.match(GOAL + r'.*\(`([^`]+)`\)', error).groups()
-    if any(line.startswith('file: specs/') or line.startswith('old: ') and re.search(DECLARES, line[len('old: ') :]) for line in edit.split('\n')):
-        return None
-    function = function_at(read('crates', crate, file), int(at))
-    answers = glob.glob(os.path.join(CRATES, crate, 'proofs', '**', str(function), '*.antt'), recursive=True)
-    return (function, goal) if function and not answers else None
-
-
-def is_checked_again(crate, edit, outcome):
-    """Whether an edit is refused at a goal whose answer may have lost its name."""
-    error = outcome[len(REFUSED) :]
-    return bool(outcome.startswith(REFUSED) and re.match(GOAL, error) and not unanswered(crate, edit, error))
-
-
-def refusal_fault(crate, edit, outcome, log):
+def refusal_fault(edit, outcome, log):
     """What is wrong with an edit's refusal, by what rt said of it; log gives what the prover said. None where nothing is wrong, and the first error."""
     named = [tuple(line.split()[-2:]) for line in edit.split('\n') if re.match(r'(# )?refused: \S+ \S+$', line)]
     if not outcome.startswith(REFUSED):
         return outcome or 'it was not tried', ''
     error = whole = outcome[len(REFUSED) :]
-    at = None
-    if is_checked_again(crate, edit, outcome):
+    if has_no_answer(outcome):
         whole, wrong = log()
         if wrong:
             return wrong, ''
         error = first_error(whole)
-    elif re.match(GOAL, error):
-        at = unanswered(crate, edit, error)
     if not error or UNFIT.search(error):
         return 'the proof no longer fits: ' + error, ''
-    at = at or place(error, whole)
+    at = place(error, whole)
     if [at] != named:
         return 'refused at %s and not at %s: %s' % (at, named, error), ''
     return None, error.splitlines()[0][:160]
