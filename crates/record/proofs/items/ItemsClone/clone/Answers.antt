@@ -1,5 +1,5 @@
-use Rattle.std.proofs.Common.{arith}
+use Rattle.std.proofs.Common.{rules}
 use Rattle.record.proofs.items.ItemsClone.clone.Goals as goal
 
 pub returns : goal.returns
-returns g c = grind arith
+returns g c = search rules
