@@ -1,9 +1,9 @@
 -- The levels allowed at a P-value are those of its run, and the ends of the runs never fall.
 -- Assumes nothing.
-use Prim.Native.Nat.{ℕ, suc, ◌+◌, ◌-◌, ◌*◌, ◌≤◌, ◌<◌}
+use Prim.Native.Nat.{ℕ, suc, ◌+◌, ◌-◌, ◌*◌, ◌/◌, ◌≤◌, ◌<◌}
 use mathlib.Core.Path.{◌≡◌}
 use mathlib.Core.Bool.{◌&&◌}
-use native.Mathlib.Nat.{le_refl, le_of_lt, mul-add, add-sub_of_le, mul-le-mul_left, mul-le-mul_right}
+use native.Mathlib.Nat.{le_refl, mul-add, add-sub_of_le, mul-le-mul_left, mul-le-mul_right}
 use native.Mathlib.Omega.{arith}
 use mathlib.Core.List.{List}
 use lib.Dec.{T, leb, ltb}
@@ -11,12 +11,11 @@ use lib.ListN.{length, get_or}
 use mir.Facts.{leb_yes, yes_leb, clash}
 use Rattle.laws.specs.Search.{any, lowest}
 use Rattle.laws.specs.Rises.{NeverFalls}
+use Rattle.laws.proofs.Rises.{keeps_by_steps}
 use Rattle.laws.proofs.Search.{any_intro, lowest_passes, lowest_top, lowest_le, lowest_is, lowest_under, lowest_found}
-use Rattle.std.specs.Option.{MatchOption, unwrap_or}
-use Rattle.std.specs.Prelude.{Option, Some, None}
 use Rattle.even.specs.Even.{Given, t, AllowedAt, Usable}
 use Rattle.even.specs.Table.{allowed_at}
-use Rattle.even.specs.Runs.{darkest, brightest, reaching, run_from, run_to, run_of, NotAbove}
+use Rattle.even.specs.Runs.{brightest, reaching, run_from, run_to, run_of, NotAbove}
 
 -- ---- the first level that is not darker than l
 
@@ -33,17 +32,10 @@ module _ (curve : List ℕ) (l : ℕ) where
   pub is_darker : (d : ℕ) → d < reaching curve l → get_or curve d 0 < l
   is_darker d h = grind (arith, reached d)
 
-  -- what a search from a level that is not above it finds
-  module _ {from : ℕ} (h : from ≤ reaching curve l) where
-    above : (n : ℕ) → n ≤ length curve → ((k : ℕ) → from ≤ k → k < n → get_or curve k 0 < l) → n ≤ reaching curve l
-    unfolding reaching
-    above n m dark = grind (arith, dark (reaching curve l), lowest_found (λ i. leb l (get_or curve i 0)) (length curve))
-
-    pub risen : (r : Option ℕ)
-        → MatchOption r ((k : ℕ) → from ≤ k → k < length curve → get_or curve k 0 < l) (λ i. (from ≤ i) × (i < length curve) × (l ≤ get_or curve i 0) × ((k : ℕ) → from ≤ k → k < i → get_or curve k 0 < l))
-        → unwrap_or r (length curve) ≡ reaching curve l
-    risen None dark = grind (arith, above (length curve), reaching_top)
-    risen (Some i) (a, b, c, dark) = grind (arith, above i, reached i)
+  -- a darker level that is not above it is below it
+  pub not_reached : (d : ℕ) → d < length curve → d ≤ reaching curve l → get_or curve d 0 < l → d + 1 ≤ reaching curve l
+  unfolding reaching
+  not_reached d k h a = grind (arith, lowest_found (λ i. leb l (get_or curve i 0)) (length curve))
 
   module _ (keeps : NeverFalls curve) where
     -- those from it on are not
@@ -54,26 +46,41 @@ module _ (curve : List ℕ) (l : ℕ) where
     pub still_darker : (d : ℕ) → d < length curve → get_or curve d 0 < l → d < reaching curve l
     still_darker d k a = grind (arith, not_darker d)
 
-reaching_rises : (curve : List ℕ) → NeverFalls curve → (l m : ℕ) → l ≤ m → reaching curve l ≤ reaching curve m
+pub reaching_rises : (curve : List ℕ) → NeverFalls curve → (l m : ℕ) → l ≤ m → reaching curve l ≤ reaching curve m
 reaching_rises curve keeps l m h = grind (arith, is_darker curve l (reaching curve m), not_darker curve m keeps (reaching curve m), reaching_top curve l)
 
--- ---- the band around a target
+-- ---- the band around a target: of any two luminances, s and t, and w thousandths of error
 
-module _ {x : Given} (u : Usable x) (p : ℕ) (l : suc p < length x.targets) where
-  -- the lower end never falls, because no more than the whole target is allowed as error
-  darkest_rises : darkest x p ≤ darkest x (suc p)
-  darkest_rises =
-      let a = le_of_lt (u.targets_rise p l) in
-      let e : x.tolerance * t x (suc p) ≡ x.tolerance * t x p + x.tolerance * (t x (suc p) - t x p) = rw (← mul-add, add-sub_of_le a) in
-      let m = mul-le-mul_right (t x (suc p) - t x p) u.tolerance_high in
-      grind arith
+-- the lower end never falls, because no more than the whole target is allowed as error
+pub darkest_rises : (w s t : ℕ) → w ≤ 1000 → s ≤ t → s - w * s / 1000 ≤ t - w * t / 1000
+darkest_rises w s t h a =
+    let e : w * t ≡ w * s + w * (t - s) = rw (← mul-add, add-sub_of_le a) in
+    let m = mul-le-mul_right (t - s) h in
+    grind arith
 
-  brightest_rises : brightest x p ≤ brightest x (suc p)
-  brightest_rises = omega (arith, u.targets_rise p l, mul-le-mul_left x.tolerance (le_of_lt (u.targets_rise p l)))
+pub brightest_rises : (w s t : ℕ) → s ≤ t → s + w * s / 1000 ≤ t + w * t / 1000
+brightest_rises w s t a = omega (arith, mul-le-mul_left w a)
 
-  -- so neither end of a run does
-  pub run_rises : NotAbove x (suc p) (run_of x p)
-  run_rises = grind (arith, reaching_rises x.curve u.curve_keeps, darkest_rises, brightest_rises)
+-- so neither end of a run does
+pub not_above : (curve : List ℕ) (w s t : ℕ) → NeverFalls curve → w ≤ 1000 → s ≤ t
+    → (reaching curve (s - w * s / 1000) ≤ reaching curve (t - w * t / 1000)) × (reaching curve (s + w * s / 1000 + 1) ≤ reaching curve (t + w * t / 1000 + 1))
+not_above curve w s t keeps h a = (
+  reaching_rises curve keeps _ _ (darkest_rises w s t h a),
+  reaching_rises curve keeps _ _ (omega (arith, brightest_rises w s t a)),
+)
+
+module _ {x : Given} (u : Usable x) where
+  targets_keep : NeverFalls x.targets
+  targets_keep = keeps_by_steps x.targets (grind (arith, u.targets_rise))
+
+  -- by P-value
+  pub runs_rise : (p q : ℕ) → p ≤ q → q < length x.targets → NotAbove x q (run_of x p)
+  runs_rise p q h l =
+      let (from, to) = not_above x.curve x.tolerance (t x p) (t x q) u.curve_keeps u.tolerance_high (targets_keep.keeps p q h l) in
+      record { from_low = from; to_low = to }
+
+  pub run_rises : (p : ℕ) → suc p < length x.targets → NotAbove x (suc p) (run_of x p)
+  run_rises p l = runs_rise p (suc p) (omega arith) l
 
 module _ (x : Given) where
   pub allowed_is : (p d : ℕ) → T (allowed_at x p d) → AllowedAt x p d

@@ -10,7 +10,7 @@ use native.Mathlib.Omega.{arith}
 use lib.Dec.{T}
 use lib.ListN.{length, get_or, set, drop}
 use Rattle.laws.specs.Search.{lowest}
-use Rattle.laws.proofs.Cases.{no_is}
+use Rattle.laws.proofs.Cases.{is_yes, yes_is, no_is}
 use Rattle.laws.proofs.Search.{lowest_passes, lowest_under, lowest_is}
 use Rattle.laws.proofs.Fill.{Filled, filled_none, filled_more}
 use Rattle.std.specs.Prelude.{Option, Some}
@@ -26,10 +26,11 @@ use Rattle.even.specs.Table.{has_no_table, step_within, tables_within, good_at, 
 use Rattle.even.specs.Runs.{brightest, run_from, run_of}
 use Rattle.even.specs.Filled.{Workable}
 use Rattle.even.specs.Steps.{least_step, span_of}
-use Rattle.even.specs.Filling.{LastLit, WriteAsks}
+use Rattle.even.specs.Filling.{LastLit, Searched, WriteAsks, lowest_within}
 use Rattle.even.proofs.Paths.{Path, path_from, path_good, lowest_path_lem, next_good, next_is}
 use Rattle.even.proofs.Runs.{reaching_top}
 use Rattle.even.proofs.Even.{least_feasible}
+use Rattle.even.proofs.Halving.{least_small}
 use Rattle.even.proofs.Steps.{step_fits_lem}
 
 -- ---- the first lit level that is bright enough
@@ -62,10 +63,10 @@ module _ {curve words : List ℕ} {run : Run} {start least r : ℕ} (first : Fir
     first_is_lit : run.from ≤ start → IsLit words run r
     first_is_lit l = grind (arith, below_end)
 
-module _ {x : Given} {k : ℕ} {words before : List ℕ} (ok : Workable x) (some : has_no_table x ≡ false) (asks : WriteAsks x k words before) where
-  -- some allowed table has this worst step
+module _ {x : Given} {k : ℕ} {words before : List ℕ} (ok : Workable x) (asks : WriteAsks x k words before) where
+  -- some allowed table has a worst step of at most k
   some_within : T (feasible x k)
-  some_within = rw asks.least (least_feasible x ok.usable (no_is some))
+  some_within = yes_is asks.some
 
   -- the lit levels of p are the good ones
   good_lit : (p d : ℕ) → p < length x.targets → d < length x.curve → T (good_at x k p d) → IsLit words (run_of x p) d
@@ -166,10 +167,10 @@ pub row_there : {x : Given} {words : List ℕ} → Workable x → LastLit x word
     → (from : ℕ) → RowThere words (record { p = run.p; from = from; to = run.to }) × (run.to ≤ length x.curve)
 row_there {x} ok last p l is from = grind (arith, run_ends x p is)
 
-module _ {x : Given} {k : ℕ} {words before : List ℕ} (ok : Workable x) (some : has_no_table x ≡ false) (asks : WriteAsks x k words before) where
+module _ {x : Given} {k : ℕ} {words before : List ℕ} (ok : Workable x) (asks : WriteAsks x k words before) where
   path : Path (tables_within x k) 0 (lowest_path (tables_within x k))
   unfolding feasible
-  path = lowest_path_lem (tables_within x k) (some_within ok some asks)
+  path = lowest_path_lem (tables_within x k) (some_within ok asks)
 
   path_small : (p : ℕ) → p < length x.targets → lowest_path (tables_within x k) p < length x.curve
   path_small p l = path.level p (omega arith) (omega arith)
@@ -181,11 +182,11 @@ module _ {x : Given} {k : ℕ} {words before : List ℕ} (ok : Workable x) (some
     start_found = rw run_is at h
 
     pub start_some : IsSome found
-    start_some = level_some ok some asks found start_found
+    start_some = level_some ok asks found start_found
 
     module _ {d : ℕ} (is : found ≡ Some d) where
       start_is : d ≡ lowest_path (tables_within x k) 0
-      start_is = level_first ok some asks (first_of x.curve words (run_of x 0) (run_from x 0) 0 found start_found is)
+      start_is = level_first ok asks (first_of x.curve words (run_of x 0) (run_from x 0) 0 found start_found is)
 
       pub start_fits : d < 65536
       start_fits = omega (arith, start_is, path_small 0 ok.usable.some_target, ok.levels)
@@ -213,7 +214,7 @@ module _ {x : Given} {k : ℕ} {words before : List ℕ} (ok : Workable x) (some
       module _ (low : ℕ) (small : low ≤ F x d + span.least) (found : Option ℕ)
           (h : FindsFirst x.curve words (on_from run (max d run.from)) low found) where
         pub after_some : IsSome found
-        after_some = next_some ok some asks p d (omega arith) good_here low (rw span_is at small) found (rw (add-one p) at (rw run_is at h))
+        after_some = next_some ok asks p d (omega arith) good_here low (rw span_is at small) found (rw (add-one p) at (rw run_is at h))
 
         pub after_fits : {e : ℕ} → found ≡ Some e → e < 65536
         after_fits {e} is = omega (arith, first_below x.curve words run _ low found h is, run_ends x (p + 1) run_is, ok.levels)
@@ -226,7 +227,7 @@ module _ {x : Given} {k : ℕ} {words before : List ℕ} (ok : Workable x) (some
         module _ {e : ℕ} (is : found ≡ Some e) where
           after_is : e ≡ lowest_path (tables_within x k) (p + 1)
           unfolding lowest_path
-          after_is = grind (arith, level_next ok some asks p d (omega arith) good_here (first_of x.curve words (run_of x (suc p)) _ _ found as_defined is))
+          after_is = grind (arith, level_next ok asks p d (omega arith) good_here (first_of x.curve words (run_of x (suc p)) _ _ found as_defined is))
 
           pub writing_more : Writing x k before (set after (p + 1) e) (p + 1) e
           writing_more = record {
@@ -235,6 +236,22 @@ module _ {x : Given} {k : ℕ} {words before : List ℕ} (ok : Workable x) (some
             entries = filled_more _ before after (p + 1) e w.entries (omega arith) after_is;
           }
 
-    pub writing_all : length x.targets - 1 ≤ p → after ≡ even_table x ++ drop (length x.targets) before
-    unfolding even_table
-    writing_all m = grind (arith, w.entries.is, asks.least)
+    pub writing_all : length x.targets - 1 ≤ p → after ≡ lowest_within x k ++ drop (length x.targets) before
+    writing_all m = grind (arith, w.entries.is)
+
+-- ---- the least worst step
+
+module _ {x : Given} {k : ℕ} {words after : List ℕ} (ok : Workable x) (some : has_no_table x ≡ false) (s : Searched x words after k) where
+  -- it is one that some allowed table keeps, and small
+  pub write_asks : {before : List ℕ} → length x.targets ≤ length before → WriteAsks x k after before
+  write_asks fits = record {
+    some = rw s.least (is_yes _ (least_feasible x ok.usable (no_is some)));
+    rows = s.rows;
+    small = rw s.least (least_small ok some);
+    fits = fits;
+  }
+
+  -- and the lowest table that keeps it is the even one
+  pub even_within : lowest_within x k ≡ even_table x
+  unfolding even_table
+  even_within = rw s.least

@@ -1,8 +1,10 @@
 -- What the parts of the even table's code ask and leave.
-use Rattle.std.specs.Prelude.{ℕ, ◌-◌, ◌*◌, ◌≤◌, ◌<◌, ◌≡◌, Bool, true, false, cond, List, Option, Some, None, length}
+use Rattle.std.specs.Prelude.{ℕ, ◌-◌, ◌*◌, ◌^◌, ◌≤◌, ◌<◌, ◌≡◌, Bool, true, false, cond, List, Option, Some, None, length}
+use Rattle.laws.specs.Fill.{tab}
 use Rattle.reach.specs.Rows.{lit}
 use Rattle.even.specs.Even.{Given, worst_step}
-use Rattle.even.specs.Table.{allowed_at, has_no_table, good_at, feasible, lowest_levels, least_worst}
+use Rattle.even.specs.Paths.{lowest_path}
+use Rattle.even.specs.Table.{allowed_at, has_no_table, good_at, feasible, tables_within, lowest_levels, least_worst}
 use Rattle.even.specs.Runs.{run_of, AreRuns}
 use Rattle.even.specs.Filled.{KeptFrom}
 
@@ -45,8 +47,13 @@ pub record Searched (x : Given) (before after : List ℕ) (k : ℕ) : Type 0 whe
   pub least : k ≡ least_worst x
   pub rows : RowsGood x after k 0
 
--- what writing the table asks: the rows are filled for the least worst step
+-- what writing the table asks: rows filled for k, which some allowed table keeps
 pub record WriteAsks (x : Given) (k : ℕ) (words before : List ℕ) : Type 0 where
-  pub least : k ≡ least_worst x
+  pub some : feasible x k ≡ true
   pub rows : RowsGood x words k 0
+  pub small : k ≤ 1000 * 2 ^ 26
   pub fits : length x.targets ≤ length before
+
+-- the lowest of the allowed tables whose worst step is at most k
+abbrev pub lowest_within : Given → (k : ℕ) → List ℕ
+lowest_within x k = tab (lowest_path (tables_within x k)) (length x.targets)

@@ -97,7 +97,7 @@ fn fill_word(curve: &[u32], words: &[u32], run: Run, next: Run, span: Span) -> W
 }
 
 // Fills a row from the next one: a level is lit where the step to some lit level there fits. True when some level is lit.
-// Each word of the run is written once, whole.
+// Each word of the run is written once, whole; none where it has no level.
 pub fn fill_row(curve: &[u32], words: &mut [u32], run: Run, next: Run, span: Span) -> bool
     requires { RowAsks curve.now words.old run next span }
     ensures { RowFilled curve.now words.old words.new run next span result }
@@ -111,6 +111,10 @@ pub fn fill_row(curve: &[u32], words: &mut [u32], run: Run, next: Run, span: Spa
             to: run.to.min(i * 32 + 32),
             ..run
         };
+        if part.to <= part.from {
+            // The run has no level.
+            break;
+        }
         let left = Run { from: q, ..next };
         let word = fill_word(curve, words, part, left, span);
         let place = run.p * 32 + i;

@@ -1,16 +1,17 @@
 -- The levels passed are darker. Assumes nothing.
-use Rattle.std.proofs.Common.{rules, tests, arith, ◌≤◌, ◌<◌, get_or}
-use Rattle.std.proofs.lemmas.Iterator.{first_from_Range}
-use Rattle.std.proofs.lemmas.List.{get_or_read}
-use Rattle.even.proofs.Runs.{risen}
+use native.Mathlib.Nat.{le_antisymm, le_trans}
+use native.Mathlib.Omega.{arith}
+use Rattle.even.proofs.Runs.{reaching_top, reached, not_reached}
 use Rattle.even.proofs.rise_to.Goals as goal
 
+pub loop-d-init : goal.loop-d-init
+loop-d-init c = c.requires
+
+pub returns-then-l-curve : goal.returns-then-l-curve
+returns-then-l-curve c = le_antisymm c.loop-d.invariant (reached _ _ _ (omega arith))
+
+pub loop-d-preserved : goal.loop-d-preserved
+loop-d-preserved c = not_reached _ _ _ (omega arith) c.loop-d.invariant (omega arith)
+
 pub returns : goal.returns
-returns c =
-    let curve = c.args.curve.now in
-    let l = c.args.l.0 in
-    let found =
-    first_from_Range _ _ _ _ (λ i. l ≤ get_or curve i 0) (λ i. get_or curve i 0 < l) c.find.ensures.ran
-    (λ x q k. grind (arith, tests, get_or_read))
-    (λ x q k. (search rules, grind (arith, tests, get_or_read))) in
-    rw c.unwrap_or.ensures (risen curve l c.requires c.find.result found)
+returns c = le_antisymm (le_trans (omega arith) c.loop-d.invariant) (reaching_top _ _)

@@ -4,6 +4,7 @@ use Prim.Native.Nat.{◌*◌, min, max}
 use native.Mathlib.Omega.{arith}
 use Rattle.reach.proofs.Filling.{filling_none, filling_more}
 use Rattle.reach.proofs.fill_row.Goals as goal
+use Rattle.reach.proofs.fill_row.Goals.{else-loop-i-test, then-loop-i-test+then-part}
 
 pub loop-i-init : goal.loop-i-init
 loop-i-init c = filling_none _ _ _ _ _
@@ -15,5 +16,6 @@ loop-i-preserved c =
 
 pub returns : goal.returns
 returns c =
-    let all : min (max c.args.run.from (c.loop-i.i * 32)) c.args.run.to ≡ c.args.run.to = omega arith in
+    let all : min (max c.args.run.from (c.loop-i.i * 32)) c.args.run.to ≡ c.args.run.to =
+    elim c.loop-i-test.branch [ else-loop-i-test w ↦ omega arith | then-loop-i-test+then-part w ↦ omega (arith, w.max.ensures, w.min.ensures, w.if-part.true) ] in
     rw all at c.loop-i.invariant.filled

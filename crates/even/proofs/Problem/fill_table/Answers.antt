@@ -1,7 +1,12 @@
+use mathlib.Core.Path.{◌≡◌}
+use mathlib.Core.Bool.{false}
 use native.Mathlib.Omega.{arith}
+use Rattle.even.specs.Problems.{given_of}
+use Rattle.even.specs.Table.{has_no_table}
 use Rattle.even.specs.Filled.{outcome_of, even_over}
 use Rattle.even.specs.Filling.{first_bound}
 use Rattle.even.proofs.Rows.{kept_all, last_there, last_lit}
+use Rattle.even.proofs.Writing.{write_asks, even_within}
 use Rattle.even.proofs.Problem.fill_table.Goals as goal
 
 pub returns-in_err-bound : goal.returns-in_err-bound
@@ -22,6 +27,14 @@ pub least_worst-worst-requires : goal.least_worst-worst-requires
 unfolding first_bound
 least_worst-worst-requires c = grind arith
 
+pub write_table-requires : goal.write_table-requires
+unfolding first_bound
+write_table-requires c =
+    rw c.least_worst-worst.ensures.same_problem (write_asks c.args.self.now.workable (grind arith) c.least_worst-worst.ensures.searched c.requires.entries_fit)
+
 pub returns : goal.returns
 unfolding outcome_of even_over first_bound
-returns c = grind arith
+returns c =
+    let some : has_no_table (given_of c.args.self.now) ≡ false = grind arith in
+    let e = even_within c.args.self.now.workable some c.least_worst-worst.ensures.searched in
+    grind arith
