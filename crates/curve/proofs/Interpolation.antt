@@ -40,6 +40,14 @@ module _ (d1 l1 d2 l2 : ℕ) where
 
 -- ---- the points of the line between two readings
 
+pub point_first : (l1 rise width part : ℕ) → 0 < width → part ≡ 0 → PointAt l1 rise width 0 l1 part
+point_first l1 rise width part pos none = record { below = omega arith; is = omega arith }
+
+-- one level on, by the rise of a level in whole units and a rest
+pub point_next : {l1 rise width k l part : ℕ} (whole rest next left : ℕ) → whole * width + rest ≡ rise → PointAt l1 rise width k l part
+    → left < width → next * width + left ≡ (l + whole) * width + (part + rest) → PointAt l1 rise width (k + 1) next left
+point_next whole rest next left slope p below is = record { below = below; is = omega (arith, p.is) }
+
 -- the luminance of a point is the value between the readings
 pub point_is : {l1 rise width k l part : ℕ} → PointAt l1 rise width k l part → l ≡ interpolate 0 l1 width (l1 + rise) k
 unfolding interpolate

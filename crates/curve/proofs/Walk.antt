@@ -1,6 +1,6 @@
 -- The curve, from reading to reading.
 -- Assumes nothing.
-use Rattle.std.proofs.Common.{◌≡◌, refl, List, [], ◌∷◌, ◌++◌, ℕ, ◌+◌, ◌-◌, ◌≤◌, ◌<◌, arith, length, take, drop, set, length-drop, length-set}
+use Rattle.std.proofs.Common.{◌≡◌, refl, List, [], ◌∷◌, ◌++◌, ℕ, ◌+◌, ◌-◌, ◌≤◌, ◌<◌, arith, length, take, drop, set, get_or, length-drop, length-set}
 use Rattle.std.proofs.Math.Seq.{length-take-le}
 use Rattle.laws.specs.Fill.{tab}
 use Rattle.laws.proofs.Fill.{Filled, filled_none, filled_more, filled_part, tab_same}
@@ -10,6 +10,7 @@ use Rattle.curve.specs.Walk.{between, LitReading, Drawable}
 use Rattle.record.specs.declared.items.Reading.{Reading}
 use Rattle.curve.specs.declared.Line.{Line}
 use Rattle.curve.proofs.Laws.{ddl_top, curve_between, curve_reading}
+use Rattle.curve.proofs.Interpolation.{interpolate_distance, interpolate_lit}
 
 -- ---- the levels strictly between two readings
 
@@ -66,8 +67,12 @@ module _ {ddls luminances before : List ℕ} {top added : ℕ} (a : Drawable ddl
 
       level_is : (k : ℕ) → k < next.ddl.0 - (last.ddl.0 + 1)
           → interpolate 0 last.luminance.0 (next.ddl.0 - (last.ddl.0 + 1) + 1) next.luminance.0 (k + 1) ≡ curve_at added ddls luminances (last.ddl.0 + 1 + k)
-      unfolding by_pair interpolate
-      level_is k h = grind (arith, follows, curve_between a.sweep added i (last.ddl.0 + 1 + k))
+      unfolding by_pair
+      level_is k h =
+          let d = last.ddl.0 + 1 + k in
+          let apart = interpolate_distance last.ddl.0 last.luminance.0 next.ddl.0 next.luminance.0 d in
+          let lit = interpolate_lit (get_or ddls i 0) (get_or luminances i 0) (get_or ddls n 0) (get_or luminances n 0) added d in
+          grind (arith, follows, apart, lit, curve_between a.sweep added i d)
 
       pub traced_more : {m : ℕ} (ys : List ℕ) → m ≡ n → ys ≡ between last.luminance.0 next.luminance.0 (next.ddl.0 - (last.ddl.0 + 1))
           → Traced added ddls luminances before

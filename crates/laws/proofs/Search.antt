@@ -2,7 +2,7 @@
 -- Assumes nothing.
 use Prim.Native.Nat.{ℕ, zero, suc, ◌+◌, ◌-◌, ◌≤◌, ◌<◌, zero-le, suc-le-suc}
 use mathlib.Core.Path.{◌≡◌, refl}
-use mathlib.Core.Bool.{Bool, true, false, ◌&&◌}
+use mathlib.Core.Bool.{Bool, true, false, ◌||◌, ◌&&◌}
 use native.Mathlib.Numerals.{add-one}
 use native.Mathlib.Omega.{arith}
 use lib.Dec.{T}
@@ -38,6 +38,15 @@ pub any_same : (p q : ℕ → Bool) (n : ℕ) → ((i : ℕ) → i < n → p i �
 unfolding any
 any_same p q zero e = refl
 any_same p q (suc n) e = rw (e zero (omega arith), any_same (λ i. p (suc i)) (λ i. q (suc i)) n (λ i h. e (suc i) (suc-le-suc h)))
+
+-- one number more
+any_suc : (p : ℕ → Bool) (n : ℕ) → any p (suc n) ≡ any p n || p n
+unfolding any
+any_suc p zero = grind arith
+any_suc p (suc n) = grind (arith, any_suc (λ i. p (suc i)) n)
+
+pub any_next : (p : ℕ → Bool) (n : ℕ) → any p (n + 1) ≡ any p n || p n
+any_next p n = rw (add-one n) (any_suc p n)
 
 -- where some number passes, the lowest does
 pub lowest_passes : (p : ℕ → Bool) (n : ℕ) → T (any p n) → T (p (lowest p n))

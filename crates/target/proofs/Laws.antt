@@ -26,6 +26,10 @@ module _ (low range top : ℕ) where
   targets_at p x h = get_or_tab (target_at low range top) (top + 1) p x (omega arith)
 
   module _ (first : 100 ≤ low) (last : low + range ≤ 102300) (some : 1 ≤ top) where
+    pub index_first : index_at low range top 0 ≡ low
+    unfolding index_at
+    index_first = grind arith
+
     pub index_last : index_at low range top top ≡ low + range
     unfolding index_at
     index_last = grind arith
@@ -40,8 +44,8 @@ module _ (low range top : ℕ) where
 
     -- the first target is G(Jlo), the last G(Jlo + N)
     pub target_first : target_at low range top 0 ≡ luminance_of low
-    unfolding target_at index_at
-    target_first = grind arith
+    unfolding target_at
+    target_first = ap luminance_of index_first
 
     pub target_last : target_at low range top top ≡ luminance_of (low + range)
     unfolding target_at
