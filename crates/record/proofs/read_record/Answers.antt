@@ -36,7 +36,7 @@ pub invariant_of-result-clause-up_to_8 : goal.invariant_of-result-clause-up_to_8
 invariant_of-result-clause-up_to_8 c = up_to_8 _ (counted _ _ c.in_ok-lamps.ensures)
 
 pub invariant_of-result-clause-up_to_1024 : goal.invariant_of-result-clause-up_to_1024
-invariant_of-result-clause-up_to_1024 c = (two _ (counted _ _ c.in_ok-sweep.ensures)).1
+invariant_of-result-clause-up_to_1024 c = grind (arith, length-map)
 
 pub invariant_of-result-clause-up_to_18 : goal.invariant_of-result-clause-up_to_18
 invariant_of-result-clause-up_to_18 c = grind (arith, length-map)

@@ -20,13 +20,7 @@ loop-i-init c = grind (arith, filled_none)
 pub target_at-high-requires : goal.target_at-high-requires
 target_at-high-requires c = (aims c.requires.1 (omega arith) (omega arith), omega (arith, length-take {A = ℤ}))
 
-pub invariant_of-pair : goal.invariant_of-pair
-invariant_of-pair c = record {
-  bounded =
-      rw (c.loop-i.invariant.shown_is, c.shown-next.ensures, c.loop-i.invariant.target_is, c.target_at-high.ensures)
-      (pair_of c.requires.1 _ (omega (arith, length-take {A = ℤ})));
-}
-
+-- Before the pair's bounds, which hold with other luminances expected too: an edit that changes these is refused here.
 pub loop-i-preserved : goal.loop-i-preserved
 unfolding at_pair
 loop-i-preserved c = record {
@@ -36,6 +30,13 @@ loop-i-preserved c = record {
       filled_more _ _ _ _ _ c.loop-i.invariant.filled c.loop-i-test.true
       (grind (arith, length-take {A = ℤ}, to_z-of_z, deviation_fits c.requires.1 c.loop-i.i, expected_is c.requires.1));
   kept_is = grind (arith, all_next, expected_is c.requires.1);
+}
+
+pub invariant_of-pair : goal.invariant_of-pair
+invariant_of-pair c = record {
+  bounded =
+      rw (c.loop-i.invariant.shown_is, c.shown-next.ensures, c.loop-i.invariant.target_is, c.target_at-high.ensures)
+      (pair_of c.requires.1 _ (omega (arith, length-take {A = ℤ})));
 }
 
 pub returns : goal.returns
